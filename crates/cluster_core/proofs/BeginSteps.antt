@@ -24,7 +24,7 @@ use Rattle.service_laws.specs.PlainOf.{plain_of}
 use Rattle.service_core.specs.Beginning.{BeginsAs}
 use Rattle.group_cluster.proofs.Running.{start-steady}
 use Rattle.group_servers.specs.GroupNodes.{standby_by}
-use Rattle.mirror.specs.declared.node.Node.{Node}
+use Rattle.mirror.specs.declared.state.NodeState.{NodeState as Node}
 use Rattle.cluster_clients.specs.declared.answer.EventAnswer.{EventAnswer}
 use Rattle.cluster_core.specs.Game.{world_game}
 use Rattle.cluster_core.specs.declared.world.World.{World}

@@ -13,7 +13,7 @@ use Rattle.cluster_facts.specs.Types.{Entry}
 use Rattle.cluster_facts.specs.History.{Hand, Empty, Waiting, Applied, Ready}
 use Rattle.cluster_events.specs.Servers.{State}
 use Rattle.event_text.specs.Texts.{printed}
-use Rattle.mirror.specs.declared.node.Node.{Node}
+use Rattle.mirror.specs.declared.state.NodeState.{NodeState as Node}
 use Rattle.group_cluster.specs.Seats as defined
 use Rattle.group_cluster.specs.Seats.{Stance, Out, Owed, Linking, Standby, Peers}
 use Rattle.cluster_rounds.specs.declared.cluster.Cluster.{Cluster}

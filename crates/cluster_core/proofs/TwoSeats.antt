@@ -7,7 +7,7 @@ use Rattle.plain_service.specs.Setups.{Setup}
 use Rattle.cluster_facts.specs.Types.{Entry}
 use Rattle.cluster_facts.specs.History.{Hand, Empty}
 use Rattle.cluster_events.specs.Servers.{State}
-use Rattle.mirror.specs.declared.node.Node.{Node}
+use Rattle.mirror.specs.declared.state.NodeState.{NodeState as Node}
 use Rattle.group_cluster.specs.Seats as defined
 use Rattle.group_cluster.specs.Seats.{Stance, Out, Peers, IsApart, AreNames, IsGroup, names_of, same_server, link_of, back_of}
 use Rattle.group_servers.specs.declared.group.Seat.{Seat}

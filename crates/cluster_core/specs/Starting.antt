@@ -8,7 +8,7 @@ use Rattle.script_lines.specs.declared.line.WellOptions.{WellOptions}
 use Rattle.script_language.specs.Streams.{well_attrs}
 use Rattle.plain_service.specs.Setups.{Setup}
 use Rattle.plain_service.specs.Storing.{opening_of}
-use Rattle.mirror.specs.declared.node.Node.{Node}
+use Rattle.mirror.specs.declared.state.NodeState.{NodeState as Node}
 use Rattle.cluster_facts.specs.History.{Empty}
 use Rattle.group_servers.specs.GroupNodes.{active_by, standby_by}
 use Rattle.disk_model.specs.declared.answers.DiskAnswer.{DiskAnswer}

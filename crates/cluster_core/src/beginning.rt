@@ -59,7 +59,13 @@ fn start_active(
 {
     match Service::new(alloc, start, queue, wells) {
         Ok((service, deeds)) => {
-            let mut node = Node::start(alloc, Role::Active, service);
+            let mut node = match Node::start(alloc, Role::Active, service) {
+                Ok(node) => node,
+                Err(error) => {
+                    mem::drop(deeds);
+                    return Err(error);
+                }
+            };
             match node.begin_join(alloc) {
                 Ok(heard) => {
                     mem::drop(heard);
@@ -90,7 +96,7 @@ fn start_standby(
     match Service::new(alloc, start, queue, wells) {
         Ok((service, deeds)) => {
             mem::drop(deeds);
-            Ok(Node::start(alloc, Role::Standby, service))
+            Node::start(alloc, Role::Standby, service)
         }
         Err(error) => Err(error),
     }

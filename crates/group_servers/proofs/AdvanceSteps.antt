@@ -12,7 +12,7 @@ use Rattle.cluster_events.specs.Lines.{Told}
 use Rattle.cluster_events.specs.Outcomes.{Outcome}
 use Rattle.cluster_events.specs.Servers.{State, or_else, advance}
 use Rattle.event_text.specs.Texts.{printed}
-use Rattle.mirror.specs.declared.node.Node.{Node}
+use Rattle.mirror.specs.declared.state.NodeState.{NodeState as Node}
 use Rattle.group_cluster.specs.Seats.{Seat, Peers, Agree}
 use Rattle.group_cluster.specs.Falling.{looked}
 use Rattle.group_cluster.specs.Group.{Turn, mirrored, confirmed, first_turn, step_by, mirror_group, ack_group, work_by, group}

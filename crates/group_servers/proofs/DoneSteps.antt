@@ -4,7 +4,7 @@ use Rattle.script_lines.specs.declared.line.Server.{Server}
 use Rattle.plain_service.specs.Setups.{Setup}
 use Rattle.cluster_facts.specs.Types.{Entry}
 use Rattle.cluster_facts.specs.History.{Empty, Ready}
-use Rattle.mirror.specs.declared.node.Node.{Node}
+use Rattle.mirror.specs.declared.state.NodeState.{NodeState as Node}
 use Rattle.mirror.specs.declared.node.Tie.TheVariants.{Apart, Linked}
 use Rattle.mirror.specs.Replicas.{at_rest}
 use Rattle.mirror.specs.Pairing.{worked_out}

@@ -20,7 +20,7 @@ use Rattle.cluster_events.specs.Outcomes.{Outcome}
 use Rattle.cluster_events.specs.Serving.{IsSteady}
 use Rattle.cluster_events.specs.Servers.{State}
 use Rattle.event_text.specs.Texts.{server_line}
-use Rattle.mirror.specs.declared.node.Node.{Node}
+use Rattle.mirror.specs.declared.state.NodeState.{NodeState as Node}
 use Rattle.group_cluster.specs.Seats as defined
 use Rattle.group_cluster.specs.Seats.{Stance, Out, Owed, Linking, Standby, Peers, Agree, IsArmed, IsGroup, any_seat, is_sent, is_standby, names_of, same_server, stance_of}
 use Rattle.group_cluster.specs.Falling.{arm_by, armed_with, crash, crash_active, crash_by, crash_other, is_served, joined, other_down, out_at, refused, restart_by}

@@ -7,7 +7,7 @@ use Rattle.plain_service.specs.Setups.{Setup}
 use Rattle.cluster_facts.specs.Types.{Entry}
 use Rattle.cluster_facts.specs.History.{Hand, Empty, committed_by}
 use Rattle.cluster_events.specs.Servers.{State}
-use Rattle.mirror.specs.declared.node.Node.{Node}
+use Rattle.mirror.specs.declared.state.NodeState.{NodeState as Node}
 use Rattle.mirror.specs.declared.node.Tie.TheVariants.{Linked, Apart}
 use Rattle.mirror.specs.Replicas.{down}
 use Rattle.mirror.specs.Pairing.{alone, taken_over}

@@ -19,7 +19,7 @@ use Rattle.cluster_events.specs.Servers.{State}
 use Rattle.event_text.specs.Texts.{printed}
 use Rattle.mirror.specs.declared.heard.Role.{Role}
 use Rattle.mirror.specs.declared.heard.Role.TheVariants.{Active, Standby as StandsBy, Joining, Down}
-use Rattle.mirror.specs.declared.node.Node.{Node}
+use Rattle.mirror.specs.declared.state.NodeState.{NodeState as Node}
 use Rattle.mirror.specs.Replicas.{down}
 use Rattle.mirror.specs.Pairing.{alone}
 use Rattle.group_cluster.specs.Seats as defined

@@ -20,7 +20,7 @@ use Rattle.cluster_events.specs.Serving.{IsSteady}
 use Rattle.cluster_events.proofs.Carrying.{Goes, hear-goes}
 use Rattle.mirror.specs.declared.heard.Role.TheVariants.{Active}
 use Rattle.mirror.specs.declared.heard.Heard.{Heard}
-use Rattle.mirror.specs.declared.node.Node.{Node}
+use Rattle.mirror.specs.declared.state.NodeState.{NodeState as Node}
 use Rattle.mirror.specs.Hearing.{CanHear}
 use Rattle.mirror.specs.Pairing.{IsHeard}
 use Rattle.group_cluster.specs.Seats.{Peers, IsGroup}

@@ -21,7 +21,7 @@ use Rattle.cluster_events.specs.Servers.{State, Servers, in_world}
 use Rattle.cluster_events.specs.ClientEvents.{post}
 use Rattle.cluster_events.specs.Events.{post_again, request_as, hear_at_rest}
 use Rattle.mirror.specs.declared.heard.Heard.{Heard}
-use Rattle.mirror.specs.declared.node.Node.{Node}
+use Rattle.mirror.specs.declared.state.NodeState.{NodeState as Node}
 use Rattle.mirror.specs.Replicas.{ReplicaState, HasRoom}
 use Rattle.mirror.specs.declared.heard.Why.{Why as Reason}
 use Rattle.mirror.specs.Hearing.{IsRequestHeard, IsReceiptHeard, IsHeardAtRest, ignored}

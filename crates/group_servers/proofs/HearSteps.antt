@@ -26,7 +26,7 @@ use Rattle.mirror.specs.declared.heard.Outcome.{Outcome as Became}
 use Rattle.mirror.specs.declared.heard.Why.{Why as Reason}
 use Rattle.mirror.specs.declared.heard.Why.TheVariants.{Old as OldMessage, Ahead as AheadMessage, Busy as BusyWith, Done, NotForRole}
 use Rattle.mirror.specs.declared.heard.Role.TheVariants.{Active}
-use Rattle.mirror.specs.declared.node.Node.{Node}
+use Rattle.mirror.specs.declared.state.NodeState.{NodeState as Node}
 use Rattle.mirror.specs.declared.node.Tie.TheVariants.{Apart, Linked}
 use Rattle.mirror.specs.Replicas.{ReplicaState, at_rest, at_work}
 use Rattle.mirror.specs.Hearing.{IsRequestHeard, IsReceiptHeard, IsHeardAtRest, ignored, accepted_alone, repeated}

@@ -7,7 +7,8 @@ use Rattle.disk_model.specs.declared.answers.DiskAnswer.TheVariants.{Memory, Fai
 use Rattle.disk_model.specs.Seen.{DiskSeen}
 use Rattle.script_lines.specs.declared.line.Server.{Server}
 use Rattle.cluster_events.specs.declared.lines.ServerRole.TheVariants as role
-use Rattle.mirror.specs.declared.node.Node.{Node}
+use Rattle.mirror.specs.declared.state.NodeState.{NodeState as Node}
+use Rattle.mirror.specs.declared.heard.Role.TheVariants.{Active}
 use Rattle.mirror.specs.Pairing.{taken_over}
 use Rattle.group_servers.specs.declared.group.Seat.{Seat}
 use Rattle.group_servers.specs.declared.group.Group.{Group}
@@ -44,12 +45,12 @@ behind-one : (less : ℕ) (seat : Seat) (news moved : List Seat) (old leads : No
 behind-one less seat news [] old leads acting now ex = elim ex [ ]
 behind-one less seat news (left ∷ moved) old leads acting now ex = (moved, ex.1)
 
-first-leads : (seat new : Seat) (others moved : List Seat) (old leads : Node) (acting now : Server) → IsFitSeat seat → new ≡ record seat { node = taken_over seat.node } → Exchanges zero (new ∷ others) moved old leads acting now → IsFitNode leads
+first-leads : (seat new : Seat) (others moved : List Seat) (old leads : Node) (acting now : Server) → IsFitSeat seat → new ≡ record seat { node = taken_over seat.node } → Exchanges zero (new ∷ others) moved old leads acting now → IsFitNode leads × (leads.replica.role ≡ Active)
 first-leads seat new others [] old leads acting now fit is ex = elim ex [ ]
 first-leads seat new others (left ∷ moved) old leads acting now fit is ex =
-    subst IsFitNode (sym (ex.2 ∙ ap (λ (s : Seat). s.node) is)) fit
+    subst (λ (node : Node). IsFitNode node × (node.replica.role ≡ Active)) (sym (ex.2 ∙ ap (λ (s : Seat). s.node) is)) ((fit.0, refl), refl)
 
-pub leads-fit : (fresh : Bool) (seats tried : List Seat) (found : Option ℕ) (place : ℕ) (start left : DiskSeen) (moved : List Seat) (old leads : Node) (acting now : Server) → found ≡ Some place → Tries fresh seats tried found start left → AllByRecursion IsFitSeat seats → Exchanges place tried moved old leads acting now → IsFitNode leads
+pub leads-fit : (fresh : Bool) (seats tried : List Seat) (found : Option ℕ) (place : ℕ) (start left : DiskSeen) (moved : List Seat) (old leads : Node) (acting now : Server) → found ≡ Some place → Tries fresh seats tried found start left → AllByRecursion IsFitSeat seats → Exchanges place tried moved old leads acting now → IsFitNode leads × (leads.replica.role ≡ Active)
 leads-fit fresh seats tried found place start left moved old leads acting now is nobody fit ex = cc
 leads-fit fresh seats tried found place start left moved old leads acting now is (passes {seats = others} {new = news} {found = deeper} seat not rest) fit ex =
     let behind = further-place deeper place is in

@@ -10,7 +10,7 @@ use Rattle.cluster_events.specs.Lines.{Told, Committed}
 use Rattle.cluster_events.specs.Outcomes.{Outcome}
 use Rattle.cluster_events.specs.Servers.{State}
 use Rattle.event_text.specs.Texts.{printed}
-use Rattle.mirror.specs.declared.node.Node.{Node}
+use Rattle.mirror.specs.declared.state.NodeState.{NodeState as Node}
 use Rattle.mirror.specs.declared.node.Tie.TheVariants.{Apart, Linked}
 use Rattle.lead_server.specs.Told.{Commits}
 use Rattle.group_cluster.specs.Seats as defined

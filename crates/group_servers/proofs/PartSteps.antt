@@ -9,7 +9,7 @@ use Rattle.cluster_facts.specs.History.{Hand, Empty, Waiting, Applied, Ready, co
 use Rattle.cluster_events.specs.Lines.{Stood, Committed}
 use Rattle.cluster_events.specs.declared.lines.ServerRole.TheVariants as role
 use Rattle.event_text.specs.Texts.{printed}
-use Rattle.mirror.specs.declared.node.Node.{Node}
+use Rattle.mirror.specs.declared.state.NodeState.{NodeState as Node}
 use Rattle.mirror.specs.declared.node.Tie.TheVariants.{Apart, Linked}
 use Rattle.mirror.specs.Replicas.{ReplicaState}
 use Rattle.group_cluster.specs.Seats as defined

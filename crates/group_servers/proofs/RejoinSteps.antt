@@ -8,7 +8,7 @@ use Rattle.wire.specs.declared.message.Message.TheVariants.{Snapshot}
 use Rattle.plain_service.specs.Fitness.{IsFit}
 use Rattle.mirror.specs.declared.heard.Heard.{Heard}
 use Rattle.mirror.specs.declared.heard.Role.TheVariants.{Standby}
-use Rattle.mirror.specs.declared.node.Node.{Node}
+use Rattle.mirror.specs.declared.state.NodeState.{NodeState as Node}
 use Rattle.mirror.specs.Replicas.{started}
 use Rattle.mirror.specs.Pairing.{IsJoinBegun, alone, snapshots}
 use Rattle.lead_server.specs.Roles.{stays_down}

@@ -23,7 +23,7 @@ use Rattle.cluster_events.specs.Devices.{EventBy, ComesTo, IsCaused}
 use Rattle.event_text.specs.Texts.{printed}
 use Rattle.group_cluster.specs.Answering.{net_answering, lines_answering}
 use Rattle.mirror.specs.declared.heard.Heard.{Heard}
-use Rattle.mirror.specs.declared.node.Node.{Node}
+use Rattle.mirror.specs.declared.state.NodeState.{NodeState as Node}
 use Rattle.mirror.specs.Replicas.{replies_owed}
 use Rattle.mirror.specs.Working.{deeds_in, replies_in, worked}
 use Rattle.mirror.specs.Pairing.{with_peer, worked_out}

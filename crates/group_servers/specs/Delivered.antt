@@ -8,7 +8,7 @@ use Rattle.event_text.specs.Texts.{server_line}
 use Rattle.mirror.specs.declared.heard.Outcome.{Outcome}
 use Rattle.mirror.specs.declared.heard.Outcome.TheVariants.{Joined}
 use Rattle.mirror.specs.declared.heard.Heard.{Heard}
-use Rattle.mirror.specs.declared.node.Node.{Node}
+use Rattle.mirror.specs.declared.state.NodeState.{NodeState as Node}
 use Rattle.mirror.specs.Pairing.{CanReceive, IsReceived}
 use Rattle.lead_server.specs.Heard.{IsConfirmed}
 use Rattle.group_servers.specs.declared.group.Seat.{Seat}

@@ -10,7 +10,7 @@ use Rattle.cluster_facts.specs.Types.{Entry}
 use Rattle.cluster_facts.specs.History.{Hand, Empty, Waiting, Applied, Ready, accepted_by}
 use Rattle.cluster_events.specs.Servers.{State}
 use Rattle.mirror.specs.declared.heard.Role.TheVariants as role
-use Rattle.mirror.specs.declared.node.Node.{Node}
+use Rattle.mirror.specs.declared.state.NodeState.{NodeState as Node}
 use Rattle.mirror.specs.declared.node.Tie.{Tie}
 use Rattle.mirror.specs.declared.node.Tie.TheVariants.{Apart, Linked}
 use Rattle.mirror.specs.Replicas.{ReplicaState, down, started, at_rest, at_work}

@@ -3,7 +3,7 @@ use Rattle.std.specs.Prelude.{◌≡◌, Bool, true, false, List, [], ◌∷◌,
 use Rattle.wire.specs.declared.message.Message.{Message}
 use Rattle.mirror.specs.declared.heard.Role.{Role}
 use Rattle.mirror.specs.declared.heard.Role.TheVariants.{Joining}
-use Rattle.mirror.specs.declared.node.Node.{Node}
+use Rattle.mirror.specs.declared.state.NodeState.{NodeState as Node}
 use Rattle.mirror.specs.declared.node.Tie.TheVariants.{Linked}
 use Rattle.mirror.specs.Pairing.{snapshots}
 use Rattle.group_servers.specs.declared.group.Seat.{Seat}

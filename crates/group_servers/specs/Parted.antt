@@ -8,7 +8,7 @@ use Rattle.cluster_facts.specs.Types.{Entry}
 use Rattle.cluster_events.specs.declared.lines.ServerRole.TheVariants as role
 use Rattle.event_text.specs.Texts.{entry_line, server_line}
 use Rattle.mirror.specs.declared.heard.Heard.{Heard}
-use Rattle.mirror.specs.declared.node.Node.{Node}
+use Rattle.mirror.specs.declared.state.NodeState.{NodeState as Node}
 use Rattle.mirror.specs.Replicas.{down, number_in_hand}
 use Rattle.mirror.specs.Pairing.{IsJoinBegun, alone, joining, parted}
 use Rattle.group_cluster.specs.Seats.{same_server}

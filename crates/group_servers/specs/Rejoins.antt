@@ -4,7 +4,7 @@ use Rattle.std.specs.List.{list_any}
 use Rattle.calls.specs.declared.saved.Saved.{Saved}
 use Rattle.mirror.specs.declared.node.Tie.TheVariants.{Linked}
 use Rattle.mirror.specs.declared.heard.Role.TheVariants.{Standby}
-use Rattle.mirror.specs.declared.node.Node.{Node}
+use Rattle.mirror.specs.declared.state.NodeState.{NodeState as Node}
 use Rattle.mirror.specs.Replicas.{down, started}
 use Rattle.mirror.specs.Pairing.{alone}
 use Rattle.script_lines.specs.declared.line.Server.{Server}

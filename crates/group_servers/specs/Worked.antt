@@ -1,7 +1,7 @@
 -- Words of bodies alone: what is told of a server that worked.
 use Rattle.std.specs.Prelude.{ℕ, List}
 use Rattle.mirror.specs.declared.heard.Heard.{Heard}
-use Rattle.mirror.specs.declared.node.Node.{Node}
+use Rattle.mirror.specs.declared.state.NodeState.{NodeState as Node}
 use Rattle.cluster_clients.specs.Posted.{PostsAll}
 use Rattle.group_servers.specs.declared.group.Seat.{Seat}
 use Rattle.group_servers.specs.Owing.{LinksAll}

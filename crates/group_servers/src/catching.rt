@@ -95,7 +95,7 @@ pub(crate) fn take_caught(catching: bool, active: &mut Node) -> Option<Entry>
     ensures { result ≡ taken_if catching active.old.waits }
 {
     if catching {
-        return active.waits.take();
+        return active.take_waiting();
     }
     None
 }

@@ -1,6 +1,7 @@
 //! Servers that are armed and restarted.
 ghost use Rattle.std.specs.Prelude.{◌≡◌, ◌≤◌, true, ℕ, List, IfOk, OnOk, OnErr};
 ghost use Rattle.script_lines.specs.declared.line.Line.TheVariants.{Arm, Disarm, Restart};
+ghost use Rattle.mirror.specs.declared.heard.Role.TheVariants.{Active};
 ghost use Rattle.cluster_rounds.specs.Worlds.{Does};
 ghost use Rattle.cluster_rounds.specs.Broken.{BreaksAlone};
 ghost use Rattle.cluster_lines.specs.Own.{DoesOn};
@@ -75,6 +76,7 @@ pub fn disarm<const N: usize, D: SharedDisk>(world: &mut Cluster<Group<N>>, disk
 
 /// What a server that comes back is sent at once: the value of the service where nothing is in hand, and else nothing.
 fn begin(alloc: Global, active: &mut Node) -> Result<Seq<Message>, AllocError>
+    requires { active.old.replica.role ≡ Active }
     ensures { IfOk result (λ messages. Begins active.old active.new messages) }
 {
     if active.in_hand().is_some() {
@@ -121,6 +123,7 @@ fn join<const N: usize>(
     server: Server,
 ) -> Result<(), AllocError>
     requires down { rests server world.old.servers ≡ true }
+    requires role { world.old.servers.active.replica.role ≡ Active }
     ensures ok { OnOk result (Does (group_kit N) (restarted_by N server) world.old world.new
         lines.old.items lines.new.items) }
     ensures err { OnErr result (IsUntold world.old world.new) }
@@ -144,6 +147,7 @@ pub fn restart<const N: usize>(
     server: Server,
 ) -> Result<(), AllocError>
     requires line { line.now ≡ Restart server }
+    requires role { world.old.servers.active.replica.role ≡ Active }
     ensures ok { OnOk result (Does (group_kit N) (restarted_by N server) world.old world.new
         lines.old.items lines.new.items) }
     ensures err { OnErr result (BreaksAlone (group_kit N) world.old world.new) }

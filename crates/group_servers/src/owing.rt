@@ -1,5 +1,6 @@
 //! Servers that join, to which the value of the service is owed.
 ghost use Rattle.std.specs.Prelude.{◌≡◌, None, OnOk, length};
+ghost use Rattle.mirror.specs.declared.heard.Role.TheVariants.{Active};
 ghost use Rattle.group_servers.specs.Owing.{is_owed, LinksOne, LinksAll};
 
 use crate::Seat;
@@ -20,7 +21,8 @@ fn is_owed(seat: &Seat) -> bool
 
 /// A server gets what is owed to it, if something is: the active one has nothing in hand.
 fn link_one(alloc: Global, active: &mut Node, seat: &mut Seat) -> Result<(), AllocError>
-    requires { active.old.replica.owed ≡ None }
+    requires idle { active.old.replica.owed ≡ None }
+    requires role { active.old.replica.role ≡ Active }
     ensures { OnOk result (LinksOne seat.old seat.new active.old active.new) }
 {
     if !is_owed(seat) {
@@ -48,7 +50,8 @@ pub(crate) fn link_all(
     active: &mut Node,
     seats: &mut [Seat],
 ) -> Result<(), AllocError>
-    requires { active.old.replica.owed ≡ None }
+    requires idle { active.old.replica.owed ≡ None }
+    requires role { active.old.replica.role ≡ Active }
     ensures { OnOk result (LinksAll seats.old seats.new active.old active.new) }
 {
     match seats.split_first_mut() {

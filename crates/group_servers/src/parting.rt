@@ -3,6 +3,7 @@ ghost use Rattle.std.specs.Prelude.{◌≡◌, ◌++◌, ◌∷◌, [], true, op
 ghost use Rattle.std.specs.List.{list_any};
 ghost use Rattle.cluster_events.specs.declared.lines.ServerRole.TheVariants as role;
 ghost use Rattle.event_text.specs.Texts.{entry_line, server_line};
+ghost use Rattle.mirror.specs.declared.heard.Role.TheVariants.{Active};
 ghost use Rattle.cluster_rounds.specs.Worlds.{Does};
 ghost use Rattle.cluster_rounds.specs.Broken.{BreaksAlone};
 ghost use Rattle.group_servers.specs.Seats.{goes_to, still_waits};
@@ -114,6 +115,7 @@ fn put_parted(
 /// The active server looks at the others again: without one that is linked it is alone, and an entry in hand waits no more once neither it
 /// nor a confirmation of it is on the way.
 fn settle(alloc: Global, active: &mut Node, seats: &[Seat])
+    requires { active.old.replica.role ≡ Active }
     ensures { active.new ≡ settled_by (list_any goes_to seats.now) (still_waits seats.now)
         active.old }
 {
@@ -122,7 +124,7 @@ fn settle(alloc: Global, active: &mut Node, seats: &[Seat])
         return;
     }
     if !still_waits(seats) {
-        mem::drop(active.waits.take());
+        mem::drop(active.take_waiting());
     }
 }
 
@@ -134,6 +136,7 @@ pub(crate) fn crash_other<const N: usize>(
     server: Server,
 ) -> Result<(), AllocError>
     requires follows { follows server world.old.servers ≡ true }
+    requires role { world.old.servers.active.replica.role ≡ Active }
     ensures ok { OnOk result (Does (group_kit N) (parted_by N server) world.old world.new
         lines.old.items lines.new.items) }
     ensures err { OnErr result (BreaksAlone (group_kit N) world.old world.new) }

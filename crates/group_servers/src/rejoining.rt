@@ -119,6 +119,7 @@ pub(crate) fn rejoin(
     now: i64,
 ) -> Result<(), AllocError>
     requires idle { active.old.replica.owed ≡ None }
+    requires role { active.old.replica.role ≡ role.Active }
     requires fit { IfSome active.old.replica.service IsFit }
     ensures { OnOk result (Rejoins active.old active.new seats.old seats.new) }
 {

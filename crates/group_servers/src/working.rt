@@ -2,6 +2,7 @@
 ghost use Rattle.std.specs.Prelude.{◌≡◌, None, OnOk, OnErr, IfOk, IfErr, IsSome};
 ghost use Rattle.std.specs.List.{AllByRecursion};
 ghost use Rattle.wire.specs.MessageSpelling.{MessageInRange};
+ghost use Rattle.mirror.specs.declared.heard.Role.TheVariants.{Active};
 ghost use Rattle.cluster_clients.specs.Posted.{PostsSome};
 ghost use Rattle.cluster_rounds.specs.Worlds.{HasStateOn, any_state};
 ghost use Rattle.cluster_rounds.specs.Rounds.{EndsStep};
@@ -37,6 +38,7 @@ fn tell_done(
 ) -> Result<(), AllocError>
     requires range { AllByRecursion MessageInRange heard.to_net }
     requires idle { active.old.replica.owed ≡ None }
+    requires role { active.old.replica.role ≡ Active }
     ensures ok { OnOk result (TellsWorked heard net.old net.new active.old active.new seats.old
         seats.new lines.old.items lines.new.items) }
     ensures err { OnErr result (PostsSome heard.to_net net.old net.new) }

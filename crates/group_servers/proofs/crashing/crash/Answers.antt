@@ -1,8 +1,11 @@
 use Rattle.std.proofs.Common.{rules, refl, sym, subst}
-use Rattle.cluster_rounds.specs.Worlds.{Does}
+use Rattle.cluster_rounds.specs.Worlds.{Does, any_state}
+use Rattle.cluster_rounds.proofs.ArmedSteps.{state-told}
 use Rattle.cluster_clients.proofs.DispatchSteps.{on-err}
 use Rattle.cluster_lines.proofs.LineSteps.{ends-ok}
 use Rattle.group_servers.specs.GroupKit.{group_kit}
+use Rattle.group_servers.specs.GroupLaws.{group_laws}
+use Rattle.group_servers.proofs.GoodSteps.{is-active}
 use Rattle.group_servers.specs.Steps.{EndsCrashed, refused_by}
 use Rattle.group_servers.proofs.HearBroken.{same-untold}
 use Rattle.group_servers.proofs.FailSteps.{crash-on, crash-refuses, ends-off}
@@ -12,7 +15,10 @@ pub crash_active-requires : goal.crash_active-requires
 crash_active-requires g c = (search rules, (c.requires.state, sym c.if-leads.ensures))
 
 pub crash_other-requires : goal.crash_other-requires
-crash_other-requires g c = (search rules, sym c.if-follows.ensures)
+crash_other-requires g c = (
+  search rules,
+  (sym c.if-follows.ensures, is-active g.row.N c.args.world.now ((state-told (group_kit g.row.N) (group_laws g.row.N)) any_state c.args.world.now (g.D.SharedDisk.seen c.args.disk.now) c.requires.state)),
+)
 
 pub returns-then-follows-clause-ok : goal.returns-then-follows-clause-ok
 returns-then-follows-clause-ok g c =

@@ -1,6 +1,6 @@
 use Rattle.std.proofs.Common.{refl, ap, ◌∙◌, ◌++◌, subst}
 use Rattle.std.specs.Option.{option_to_list}
-use Rattle.mirror.specs.declared.node.Node.{Node}
+use Rattle.mirror.specs.declared.state.NodeState.{NodeState as Node}
 use Rattle.group_servers.specs.Falls.{TakesOver}
 use Rattle.group_servers.proofs.crashing.fall.Goals as goal
 

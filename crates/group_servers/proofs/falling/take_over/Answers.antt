@@ -57,7 +57,7 @@ rejoin-requires g c =
     let many = c.count_takers-count.ensures.is ∙ ap (λ (seats : List Seat). length (takers fresh seats)) c.drop_ways.ensures in
     let all = subst (λ (seats : List Seat). AllByRecursion IsFitSeat seats) (sym c.drop_ways.ensures) (wayless-fit old.seats c.requires.fit) in
     let fit = leads-fit fresh c.drop_ways.new.seats c.first_takeover.new.seats (Some c.in-Ok-Some.place) c.in-Ok-Some.place start left c.exchange-servers.new.seats old.active c.exchange-servers.new.active old.acting c.exchange-servers.result refl came all c.exchange-servers.ensures in
-    record { idle = fit.1; fit = fit.0 }
+    record { idle = fit.0.1; role = fit.1; fit = fit.0.0 }
 
 pub returns-in-Ok : goal.returns-in-Ok
 returns-in-Ok g c = λ before long is.

@@ -9,7 +9,7 @@ use Rattle.group_servers.proofs.FailSteps.{restart-refuses}
 use Rattle.group_servers.proofs.joining.restart.Goals as goal
 
 pub join-requires : goal.join-requires
-join-requires g c = (search rules, sym c.if-rests.ensures)
+join-requires g c = (search rules, (sym c.if-rests.ensures, c.requires.role))
 
 pub returns-then-rests-clause-err : goal.returns-then-rests-clause-err
 returns-then-rests-clause-err g c =

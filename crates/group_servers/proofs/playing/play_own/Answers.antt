@@ -4,6 +4,7 @@ use Rattle.cluster_rounds.specs.Worlds.{any_state}
 use Rattle.cluster_rounds.proofs.ArmedSteps.{state-told}
 use Rattle.group_servers.specs.GroupKit.{group_kit}
 use Rattle.group_servers.specs.GroupLaws.{group_laws}
+use Rattle.group_servers.proofs.GoodSteps.{is-active}
 use Rattle.group_servers.proofs.OwnSteps.{ack-line, arm-line, crash-line, disarm-line, mirror-line, restart-line}
 use Rattle.group_servers.proofs.playing.play_own.Goals as goal
 
@@ -23,7 +24,10 @@ pub arm-requires : goal.arm-requires
 arm-requires g c = (search rules, (subst IsInRange c.in-Arm.is c.requires.range, c.in-Arm.is))
 
 pub restart-requires : goal.restart-requires
-restart-requires g c = (search rules, c.in-Restart.is)
+restart-requires g c = (
+  search rules,
+  (c.in-Restart.is, is-active g.row.N c.args.world.now ((state-told (group_kit g.row.N) (group_laws g.row.N)) any_state c.args.world.now (g.D.SharedDisk.seen c.args.disk.now) c.requires.state)),
+)
 
 pub returns-in-Mirror : goal.returns-in-Mirror
 returns-in-Mirror g c =

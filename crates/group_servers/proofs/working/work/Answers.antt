@@ -1,7 +1,7 @@
-use Rattle.std.proofs.Common.{rules, ◌≡◌, ℕ, inl, inr, List, length, refl, sym, Err, ap, subst}
+use Rattle.std.proofs.Common.{rules, ◌≡◌, ℕ, inl, inr, List, length, refl, sym, ◌∙◌, Err, ap, subst}
 use Rattle.disk_model.specs.declared.answers.DiskAnswer.TheVariants.{Failed}
 use Rattle.disk_model.specs.declared.tally.Tally.{Tally}
-use Rattle.mirror.specs.declared.node.Node.{Node}
+use Rattle.mirror.specs.declared.state.NodeState.{NodeState as Node}
 use Rattle.cluster_rounds.specs.Worlds.{any_state}
 use Rattle.cluster_rounds.specs.Came.{ComesOff}
 use Rattle.cluster_rounds.proofs.ArmedSteps.{state-told}
@@ -11,6 +11,7 @@ use Rattle.group_servers.specs.Falls.{TakesOver}
 use Rattle.group_servers.specs.GroupKit.{group_kit}
 use Rattle.group_servers.specs.GroupLaws.{group_laws}
 use Rattle.group_servers.specs.Steps.{EndsWork}
+use Rattle.group_servers.proofs.GoodSteps.{is-active}
 use Rattle.group_servers.specs.Worked.{TellsWorked}
 use Rattle.group_servers.proofs.FallLines.{none-left, one-left}
 use Rattle.group_servers.proofs.WorkFalls.Broke.{stopped, failed}
@@ -30,6 +31,7 @@ tell_done-requires g c =
     record {
       range = worked-range g.row.N c.args.world.now c.in-Ok-work.heard c.work.new.self ((state-told (group_kit g.row.N) (group_laws g.row.N)) any_state c.args.world.now (g.D.SharedDisk.seen c.args.disk.now) c.requires.state) c.requires.hand c.requires.ready (record { heard_is = done.0; new_is = done.1 });
       idle = ap (λ (node : Node). node.replica.owed) done.1;
+      role = ap (λ (node : Node). node.replica.role) done.1 ∙ is-active g.row.N c.args.world.now ((state-told (group_kit g.row.N) (group_laws g.row.N)) any_state c.args.world.now (g.D.SharedDisk.seen c.args.disk.now) c.requires.state);
     }
 
 pub returns-in-Ok-tell_done-clause-ok : goal.returns-in-Ok-tell_done-clause-ok
