@@ -6,8 +6,8 @@ use Rattle.script_lines.specs.declared.line.Line.TheVariants as line
 use Rattle.script_lines.specs.declared.line.Server.{Server}
 use Rattle.script_lines.specs.declared.line.Server.TheVariants.{A, B}
 use Rattle.cluster_events.specs.declared.lines.ServerRole.TheVariants as role
+use Rattle.cluster_events.specs.Ending.{is_crash}
 use Rattle.group_cluster.specs.Seats.{Peers, role_of}
-use Rattle.group_cluster.specs.Running.{is_crash}
 use Rattle.group_cluster.specs.Standing.{StayUp, IsShort}
 use Rattle.group_servers.specs.GroupCounts.{FellIn}
 use Rattle.played_runs.specs.Promises.{LineSentence}

@@ -158,7 +158,7 @@ ends-event next old new parts before after held left is ends setup state good sh
       subst E (sym is) (record {
         happened = ended.happened;
         end = ended.end;
-        ends = ended.ends.is ended.happened (λ number above within. refl);
+        ends = ended.ends;
         printed = refl;
         between = ended.faults.between;
         before_it = ended.faults.before_it;

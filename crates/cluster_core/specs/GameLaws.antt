@@ -1,13 +1,11 @@
 -- What is asked of a world that plays the lines of scripts holds of that of two servers.
-use Rattle.std.specs.Prelude.{◌≡◌, ℕ, false, Option, Some, None, IfSome, List, [], ◌∷◌}
+use Rattle.std.specs.Prelude.{◌≡◌, ℕ, Option, Some, None, IfSome, List, [], ◌∷◌}
 use Rattle.std.proofs.Common.{refl}
 use Rattle.disk_model.specs.Disk.{Files}
 use Rattle.script_lines.specs.declared.line.Line.{Line}
 use Rattle.script_lines.specs.declared.line.Line.TheVariants as line
 use Rattle.script_lines.specs.declared.line.Server.TheVariants.{B}
 use Rattle.plain_service.specs.Setups.{Setup}
-use Rattle.cluster_facts.specs.Types.{Entry, Called, Message}
-use Rattle.cluster_facts.specs.World.{World as WorldOf}
 use Rattle.cluster_events.specs.Lines.{Told}
 use Rattle.cluster_events.specs.Outcomes.{Outcome}
 use Rattle.cluster_events.specs.Servers.{State}
@@ -15,21 +13,18 @@ use Rattle.cluster_events.specs.Devices.{Device}
 use Rattle.cluster_events.specs.Serving.{IsSteady}
 use Rattle.cluster_events.specs.Settled.{IsSettled}
 use Rattle.cluster_events.proofs.Ending.{settle-settles}
-use Rattle.cluster_events.proofs.Walking.{Others}
 use Rattle.service_laws.specs.PlainOf.{plain_of}
 use Rattle.service_laws.proofs.ServiceLaws.{is_plain}
 use Rattle.cluster_rounds.specs.Kits.{device_by}
 use Rattle.cluster_lines.specs.Shelves.{shelf_of}
-use Rattle.group_cluster.specs.Ended as group_ended
-use Rattle.group_cluster.specs.Running as running
 use Rattle.group_cluster.specs.Seats.{Peers, IsGroup}
 use Rattle.group_cluster.specs.Group.{group}
 use Rattle.group_cluster.proofs.Ended.{line-tells, line-lacks}
 use Rattle.group_cluster.proofs.Running.{start-steady, group-kept}
 use Rattle.group_cluster.proofs.Saying.{group-serves, group-spends}
 use Rattle.group_cluster.proofs.Walking as walking
-use Rattle.played_runs.specs.Kinds.{InTime, IsCored, Passes, Refuses, Waits}
-use Rattle.played_runs.specs.Laws.{DoneFacts, EndFacts, IsGame, LacksLast, is_crash}
+use Rattle.played_runs.specs.Kinds.{InTime, Refuses, Waits}
+use Rattle.played_runs.specs.Laws.{DoneFacts, EndFacts, IsGame}
 use Rattle.played_runs.specs.Views.{DiskView, files_told}
 use Rattle.played_runs.proofs.RefusalLaws.{refuses-told, refuses-cored, refuses-by-kind}
 use Rattle.played_runs.proofs.TimeLaws.{in_time-told, in_time-cored, in_time-by-kind}
@@ -44,16 +39,6 @@ abbrev pub device_in :
     {setup : Setup} {held : Option Files} {before after : ℕ} {next : Line} {state : State Peers} {outcome : Outcome (State Peers)}
     → LineDone setup held before next state outcome after → Device
 device_in {setup = setup} done = record { calls = calls_by setup; fails = done.step.fails }
-
--- what is asked by what history and hand become, in the words of a group
-group-cored : (R : WorldOf → WorldOf → List Told → Type 0) → IsCored R → walking.IsCored R
-group-cored R cored = record {
-  taken = cored.taken;
-  applied = cored.applied;
-  confirmed = cored.confirmed;
-  answered = cored.answered;
-  over = cored.over;
-}
 
 -- what is shown of a disk that told files is shown where it told them before
 still-shown : (X : Type 0) (held : Option Files) (files : Files) → IfSome (files_told files held) (λ _. X) → IfSome held (λ _. X)
@@ -70,24 +55,15 @@ done-facts setup held before next state outcome after steady done =
     record {
       keeps = group-kept plain (is_plain setup) done.shelf device next state outcome steady happens;
       in_time =
-          (walking.group-walks plain (is_plain setup) done.shelf device InTime (in_time-told plain) (group-cored (InTime Others) in_time-cored)
+          (walking.group-walks plain (is_plain setup) done.shelf device InTime (in_time-told plain) in_time-cored
           (in_time-by-kind plain) next state outcome steady happens).1;
       refuses =
-          (walking.group-walks plain (is_plain setup) done.shelf device Refuses (refuses-told plain) (group-cored (Refuses Others) refuses-cored)
+          (walking.group-walks plain (is_plain setup) done.shelf device Refuses (refuses-told plain) refuses-cored
           (refuses-by-kind plain) next state outcome steady happens).1;
       waits =
-          (walking.group-walks plain (is_plain setup) done.shelf device Waits (passes-told plain) (group-cored Passes passes-cored)
+          (walking.group-walks plain (is_plain setup) done.shelf device Waits (passes-told plain) passes-cored
           (waits-by-kind plain) next state outcome steady happens).1;
     }
-
-no-crash : (next : Line) → is_crash next ≡ false → running.is_crash next ≡ false
-no-crash (line.Crash server) calm = calm
-no-crash _ calm = refl
-
-lacks-last : (past : List Entry) (messages : List Message) → group_ended.LacksLast past messages → LacksLast past messages
-lacks-last [] messages lacks = tt
-lacks-last (Called client number time call ∷ past) messages lacks = lacks
-lacks-last (_ ∷ past) messages lacks = tt
 
 end-facts :
     (setup : Setup) (state : State Peers) (next : Line) (told : List Told) (held left : DiskView) (world : World)
@@ -100,8 +76,7 @@ end-facts setup state next told held left world ended steady =
     record {
       keeps = last.0;
       idle = last.1;
-      lacks = λ calm.
-          lacks-last _ _ (line-lacks plain (is_plain setup) device next state ended.end steady (no-crash next calm) ended.ends);
+      lacks = λ calm. line-lacks plain (is_plain setup) device next state ended.end steady calm ended.ends;
     }
 
 settled :

@@ -128,7 +128,8 @@ module _ (n : ℕ) where
   -- so it is where the work ends
   pub work-off : (answer : DiskAnswer) (old new : Cluster (Group n)) (before after : List (List ℕ)) (held left : DiskSeen) → NoMessage old → ComesOff (group_kit n) any_state (EndsWork n) answer old new before after held left → ComesOff (group_kit n) any_state (EndsStep (group_kit n)) answer old new before after held left
   work-off Memory old new before after held left none comes setup state good shows armed so = comes setup state good shows armed so
-  work-off Stopped old new before after held left none comes setup state good shows armed so = comes setup state good shows armed so
+  work-off Stopped old new before after held left none comes setup state good shows armed so =
+      let halted = comes setup state good shows armed so in absurd (halted.ends.is halted.happened (λ number above within. refl))
   work-off Failed old new before after held left none comes setup state good shows armed so =
       let no = none setup state good shows in
       let ended = comes setup state good shows armed so in

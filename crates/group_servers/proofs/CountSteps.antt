@@ -17,7 +17,7 @@ module _ (n : ℕ) where
   pub off-counted : {T : Type 0} (r : Result T DiskAnswer) (Ends : EndOver (group_kit n)) (old new : Cluster (Group n)) (before after : List (List ℕ)) (held left : DiskSeen) → HasStateOn (group_kit n) any_state old held → OnOk r (held.faults ≤ left.faults) → IfErr r (λ answer. ComesOff (group_kit n) any_state Ends answer old new before after held left) → Counted {T = T} (group_kit n) held left r
   off-counted (Ok x) Ends old new before after held left has done off = done
   off-counted (Err Memory) Ends old new before after held left has done off = (off has.setup has.state has.good has.shows has.count tt).1
-  off-counted (Err Stopped) Ends old new before after held left has done off = absurd (off has.setup has.state has.good has.shows has.count tt)
+  off-counted (Err Stopped) Ends old new before after held left has done off = (off has.setup has.state has.good has.shows has.count tt).uses.later
   off-counted (Err Failed) Ends old new before after held left has done off =
       let faults = (off has.setup has.state has.good has.shows has.count tt).faults in
       record {

@@ -300,14 +300,14 @@ module _ (n : ℕ) where
         faults-so (inr made) = tries-later fresh (all_wayless mid.servers.seats) made.0 (Some made.1) partly.start left made.2
 
       -- **it failed**: there was one alone
-      crash-ended : AllFell fresh (fell mid.servers) new.servers prepared.front after held left → Ended (group_kit n) setup state (EndsCrashed n state.peers.acting setup) new before after held left
+      crash-ended : AllFell fresh (fell mid.servers) new.servers prepared.front after held left → Ended (group_kit n) setup state (EndsCrashed n state.peers.acting Failed setup) new before after held left
       crash-ended all =
           let some = some-standby standby in
           let last = fell-last n setup state good (fell mid.servers) new.servers fresh prepared.front after held left seats-are fresh-so acting-is refl all some in
           let calls = fell-calls n setup state good (fell mid.servers) new.servers fresh prepared.front after held left seats-are fresh-so acting-is refl all some in
           let none = fresh-so ∙ stale n setup state good (fell mid.servers) new.servers fresh prepared.front after held left seats-are fresh-so acting-is refl all in
           let one = few-standbys state.peers.acting state.peers.seats good.steady.good.names good.steady.good.apart in
-          ended-by n setup state old new before after held left good shows (EndsCrashed n state.peers.acting setup) (λ number. 0)
+          ended-by n setup state old new before after held left good shows (EndsCrashed n state.peers.acting Failed setup) (λ number. 0)
           (record {
             later = ended-later setup state;
             is = λ fails agrees. record {
@@ -350,6 +350,6 @@ module _ (n : ℕ) where
         crash-partly old mid catching fresh base before lines prepared setup state good shows new after held left (Err Memory) falls found.standby falls.ends
     crash-off (Err Failed) falls = λ setup state good shows armed it.
         let found = leads-in setup state old server good shows so in
-        let C : Server → Type 0 = λ s. Ended (group_kit n) setup state (EndsCrashed n s setup) new before after held left in
+        let C : Server → Type 0 = λ s. Ended (group_kit n) setup state (EndsCrashed n s Failed setup) new before after held left in
         subst C (sym (same-is server state.peers.acting found.same)) (crash-ended old mid catching fresh base before lines prepared setup state good shows new after held left (Err Failed) falls found.standby falls.ends)
     crash-off (Err Stopped) falls = elim falls.ends [ ]

@@ -1,6 +1,7 @@
 -- Where an event of the servers ends by a fault that none of them survives.
 use Rattle.std.proofs.Common.{◌≡◌, ℕ, suc, ◌-◌, ◌≤◌, true, if◌then◌else◌, None, List, ◌∷◌, ◌++◌, refl, ap, sym, ◌∙◌, subst, arith}
 use Rattle.disk_model.specs.Seen.{DiskSeen}
+use Rattle.disk_model.specs.declared.answers.DiskAnswer.TheVariants.{Failed}
 use Rattle.plain_service.specs.Setups.{Setup}
 use Rattle.cluster_facts.specs.Types.{Entry}
 use Rattle.cluster_facts.specs.History.{Ready}
@@ -77,5 +78,5 @@ module _ (n : ℕ) (setup : Setup) (state : State Peers) (old new : Cluster (Gro
         }
 
 -- a step of a drain ends so where nothing is to be mirrored or confirmed
-pub drain-ends : (n : ℕ) (setup : Setup) (state : State Peers) → mirror_group state ≡ None → ack_group state ≡ None → (fails : ℕ → ℕ) (end : Outcome (State Peers)) → EndsGroup (device_by setup fails) state end → EndsStep (group_kit n) setup fails state end
+pub drain-ends : (n : ℕ) (setup : Setup) (state : State Peers) → mirror_group state ≡ None → ack_group state ≡ None → (fails : ℕ → ℕ) (end : Outcome (State Peers)) → EndsGroup (device_by setup fails) state end → EndsStep (group_kit n) Failed setup fails state end
 drain-ends n setup state no_mirror no_ack fails end ends = record { mirror = no_mirror; ack = no_ack; works = ends }

@@ -116,9 +116,10 @@ module _ (n : ℕ) where
 
   crash-off : (answer : DiskAnswer) (server : Server) (old new : Cluster (Group n)) (before after : List (List ℕ)) (held left : DiskSeen) → (ComesOff (group_kit n)) any_state (EndsCrashed n server) answer old new before after held left → (BreaksOff (group_kit n) group_script) answer (line.Crash server) old new before after held left
   crash-off Memory server old new before after held left off = λ setup state good shows count. off setup state good shows count tt
-  crash-off Stopped server old new before after held left off = λ setup state good shows count. off setup state good shows count tt
+  crash-off Stopped server old new before after held left off = λ setup state good shows count.
+      let halted = off setup state good shows count tt in halted.ends.is halted.happened (λ number above within. refl)
   crash-off Failed server old new before after held left off = λ setup state good shows count.
-      (ended-line (group_kit n) (group_laws n) group_script (group_follows n)) (line.Crash server) (EndsCrashed n server) setup state new before after held left
+      (ended-line (group_kit n) (group_laws n) group_script (group_follows n)) (line.Crash server) (EndsCrashed n server Failed) setup state new before after held left
       (λ fails end ends. record { active = ends.active; standby = ends.standby; none = ends.none; calls = ends.calls; row = ends.row; is = ended-kept state end ends.is })
       (λ happened end faults. faults)
       (off setup state good shows count tt)
@@ -147,7 +148,7 @@ module _ (n : ℕ) where
       subst D (sym disk) (subst W (sym world) (subst A (sym same) (record {
         ok = tt;
         stands = tt;
-        broken = λ setup state good shows counted. ((same-breaks (group_kit n) (group_laws n)) old held setup state good shows, (group_laws n).lacks_same setup state held);
+        broken = λ setup state good shows counted. ((same-breaks (group_kit n) (group_laws n)) old held setup state good shows, (group_laws n).lacks_same setup state old.servers held);
         counts = (group_laws n).stands held;
       })))
 
@@ -183,9 +184,10 @@ module _ (n : ℕ) where
 
   work-off : (answer : DiskAnswer) (old new : Cluster (Group n)) (before after : List (List ℕ)) (held left : DiskSeen) → (ComesOff (group_kit n)) any_state (EndsWork n) answer old new before after held left → (BreaksOff (group_kit n) group_script) answer line.Work old new before after held left
   work-off Memory old new before after held left off = λ setup state good shows count. off setup state good shows count tt
-  work-off Stopped old new before after held left off = λ setup state good shows count. off setup state good shows count tt
+  work-off Stopped old new before after held left off = λ setup state good shows count.
+      let halted = off setup state good shows count tt in halted.ends.is halted.happened (λ number above within. refl)
   work-off Failed old new before after held left off = λ setup state good shows count.
-      (ended-line (group_kit n) (group_laws n) group_script (group_follows n)) line.Work (EndsWork n) setup state new before after held left
+      (ended-line (group_kit n) (group_laws n) group_script (group_follows n)) line.Work (EndsWork n Failed) setup state new before after held left
       (λ fails end ends. record { entry = ends.entry; ready = ends.ready; calls = ends.calls; fell = ends.fell; row = ends.row; is = ended-kept state end ends.is })
       (λ happened end faults. faults)
       (off setup state good shows count tt)

@@ -119,7 +119,7 @@ module _ (n : ℕ) where
   over-by setup state (Waiting other) entry old new fresh before after held mid left is good shows count fresh_so standby broke took = cc
   over-by setup state (Applied other) entry old new fresh before after held mid left is good shows count fresh_so standby broke took = cc
 
-  ended-so : (setup : Setup) (state : State Peers) (hand : Hand) (entry : Entry) (old : Cluster (Group n)) (new : Group n) (fresh : Bool) (before after : List (List ℕ)) (held mid left : DiskSeen) → hand ≡ Ready entry → IsGood (group_kit n) setup (group_at state.peers.seats hand state) → Shows (group_kit n) setup (group_at state.peers.seats hand state) old → held.tally.armed ≡ state.peers.armed → fresh ≡ list_any code.is_fresh old.servers.seats → any_seat is_standby state.peers.seats ≡ true → BrokeIn old held mid → AllFell fresh (fell old.servers) new before after mid left → Ended (group_kit n) setup (group_at state.peers.seats hand state) (EndsWork n setup) (with_servers old new) before after held left
+  ended-so : (setup : Setup) (state : State Peers) (hand : Hand) (entry : Entry) (old : Cluster (Group n)) (new : Group n) (fresh : Bool) (before after : List (List ℕ)) (held mid left : DiskSeen) → hand ≡ Ready entry → IsGood (group_kit n) setup (group_at state.peers.seats hand state) → Shows (group_kit n) setup (group_at state.peers.seats hand state) old → held.tally.armed ≡ state.peers.armed → fresh ≡ list_any code.is_fresh old.servers.seats → any_seat is_standby state.peers.seats ≡ true → BrokeIn old held mid → AllFell fresh (fell old.servers) new before after mid left → Ended (group_kit n) setup (group_at state.peers.seats hand state) (EndsWork n Failed setup) (with_servers old new) before after held left
   ended-so setup state (Ready other) entry old new fresh before after held mid left is good shows count fresh_so standby broke all =
       let calls = owed-calls n setup (group_at state.peers.seats (Ready other) state) other old shows refl in
       work-ended n setup state other old new fresh before after held mid left good shows count fresh_so standby (subst (λ c. Broke held.tally.armed c held mid) calls broke) all
@@ -160,7 +160,7 @@ module _ (n : ℕ) where
 
   -- There is no standby.
 
-  alone-by : (setup : Setup) (state : State Peers) (hand : Hand) (entry : Entry) (old : Cluster (Group n)) (before after : List (List ℕ)) (count : ℕ) (held left : DiskSeen) → hand ≡ Ready entry → IsGood (group_kit n) setup (group_at state.peers.seats hand state) → Shows (group_kit n) setup (group_at state.peers.seats hand state) old → held.tally.armed ≡ state.peers.armed → any_seat is_standby state.peers.seats ≡ false → left.tally.armed ≡ counts.lowered (suc count) held.tally.armed → BreaksOff (LeftOn Failed) (owed_in old) count held.files left.files → held.faults ≤ left.faults → Rose held.faults left.faults → after ≡ before ++ server_line old.servers.acting role.Down ∷ [] → Ended (group_kit n) setup (group_at state.peers.seats hand state) (EndsWork n setup) (with_servers old (fell old.servers)) before after held left
+  alone-by : (setup : Setup) (state : State Peers) (hand : Hand) (entry : Entry) (old : Cluster (Group n)) (before after : List (List ℕ)) (count : ℕ) (held left : DiskSeen) → hand ≡ Ready entry → IsGood (group_kit n) setup (group_at state.peers.seats hand state) → Shows (group_kit n) setup (group_at state.peers.seats hand state) old → held.tally.armed ≡ state.peers.armed → any_seat is_standby state.peers.seats ≡ false → left.tally.armed ≡ counts.lowered (suc count) held.tally.armed → BreaksOff (LeftOn Failed) (owed_in old) count held.files left.files → held.faults ≤ left.faults → Rose held.faults left.faults → after ≡ before ++ server_line old.servers.acting role.Down ∷ [] → Ended (group_kit n) setup (group_at state.peers.seats hand state) (EndsWork n Failed setup) (with_servers old (fell old.servers)) before after held left
   alone-by setup state (Ready other) entry old before after count held left is good shows armed alone lowered broke later rose told =
       let now = group_at state.peers.seats (Ready other) state in
       let past = state.world.core.answered in
@@ -173,8 +173,8 @@ module _ (n : ℕ) where
       let happened : ℕ → ℕ = λ number. 0 in
       let row : count_seats is_standby owns ≤ 1 = let no = count-none is_standby owns none in omega arith in
       let acting : old.servers.acting ≡ state.peers.acting = ap (λ (servers : Group n). servers.acting) shows.own in
-      ended-by n setup now old new before after held left good shows (EndsWork n setup) happened
-      (work-ends n setup now old new before after held left good shows (EndsWork n setup) other (λ fails end ends. ends) refl happened some (λ standby. let not = alone in cc) row)
+      ended-by n setup now old new before after held left good shows (EndsWork n Failed setup) happened
+      (work-ends n setup now old new before after held left good shows (EndsWork n Failed setup) other (λ fails end ends. ends) refl happened some (λ standby. let not = alone in cc) row)
       (record { between = held.faults; before_it = le_refl held.faults; caused = λ never number. refl; behind_it = later; rose = rose })
       (record {
         active = refl;

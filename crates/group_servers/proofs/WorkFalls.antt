@@ -213,15 +213,15 @@ module _ (n : ℕ) where
         faults-so (inr over) = le_trans later-so (subst (λ (m : ℕ). m ≤ left.faults) later-start (tries-later fresh (all_wayless old.servers.seats) over.0 (Some over.1) partly.start left over.2))
 
     -- **all failed**
-    pub work-ended : AllFell fresh (fell old.servers) new before after mid left → Ended (group_kit n) setup now (EndsWork n setup) (with_servers old new) before after held left
+    pub work-ended : AllFell fresh (fell old.servers) new before after mid left → Ended (group_kit n) setup now (EndsWork n Failed setup) (with_servers old new) before after held left
     work-ended all =
         let many = count_seats is_standby state.peers.seats in
         let some : 1 ≤ many = count-some is_standby state.peers.seats standby in
         let last = fell-last n setup now good (fell old.servers) new fresh before after mid left seats-are fresh-so acting-is refl all some in
         let fails = ends-with broke many in
         let happened : ℕ → ℕ = λ number. fails in
-        ended-by n setup now old (with_servers old new) before after held left good shows (EndsWork n setup) happened
-        (work-ends n setup now old (with_servers old new) before after held left good shows (EndsWork n setup) entry (λ works end ends. ends) refl happened some-calls (λ it. falls-so fails (some-ends many some broke)) (row-so many some broke))
+        ended-by n setup now old (with_servers old new) before after held left good shows (EndsWork n Failed setup) happened
+        (work-ends n setup now old (with_servers old new) before after held left good shows (EndsWork n Failed setup) entry (λ works end ends. ends) refl happened some-calls (λ it. falls-so fails (some-ends many some broke)) (row-so many some broke))
         (record {
           between = last.between;
           before_it = le_trans later-so last.before_it;

@@ -1,15 +1,20 @@
 -- Words of public clauses: an active server and others beside it, as the servers of a cluster.
 use Rattle.std.specs.Prelude.{◌≡◌, ℕ, ◌≤◌, false, Option, None}
 use Rattle.disk_model.specs.Seen.{DiskSeen}
+use Rattle.disk_model.specs.declared.answers.DiskAnswer.{DiskAnswer}
+use Rattle.disk_model.specs.declared.answers.DiskAnswer.TheVariants.{Failed}
 use Rattle.plain_service.specs.Setups.{Setup}
+use Rattle.cluster_facts.specs.Service.{Plain}
 use Rattle.cluster_events.specs.Servers.{State}
+use Rattle.cluster_events.specs.Devices.{Device}
+use Rattle.cluster_events.specs.Ending.{EndAt}
 use Rattle.mirror.specs.Replicas.{down}
 use Rattle.mirror.specs.Pairing.{alone}
 use Rattle.cluster_facts.specs.History.{Empty}
 use Rattle.group_cluster.specs.Seats.{Peers, IsGroup}
 use Rattle.group_cluster.specs.Group.{group}
 use Rattle.group_cluster.specs.Running.{GroupHappens}
-use Rattle.group_cluster.specs.Ended.{EndsGroup, GroupEnds}
+use Rattle.group_cluster.specs.Ended.{EndsGroupStep, GroupEnds}
 use Rattle.cluster_rounds.specs.Kits.{Kit}
 use Rattle.cluster_rounds.specs.Seen.{TellsFiles}
 use Rattle.cluster_rounds.specs.Worlds.{LeavesFiles}
@@ -28,6 +33,11 @@ pub record FellGroup {n : ℕ} (setup : Setup) (state : State Peers) (servers : 
   pub armed : servers.armed ≡ false
   pub count : left ≡ None
 
+-- a step ends by a fault alone: behind a stop another server goes on
+abbrev pub group_ends : DiskAnswer → Plain → Device → EndAt Peers
+group_ends Failed plain device = EndsGroupStep plain device
+group_ends _ plain device = λ state end. ⊥
+
 -- A drain is thirteen steps. The disk's count to the call at which it stops is that of the active server. Standbys outlive faults.
 abbrev pub group_kit : (n : ℕ) → Kit Peers (Group n)
 group_kit n = record {
@@ -42,11 +52,11 @@ group_kit n = record {
   Tells = λ setup state seen. TellsFiles setup state seen.files;
   Leaves = λ setup state held left. LeavesFiles setup state held.files left.files;
   Between = λ setup past held left. LeavesBetween setup past held.files left.files;
-  EndsAtWork = EndsGroup;
+  EndsAt = group_ends;
   Fell = λ setup state servers left. FellGroup setup state servers left.tally.armed;
   Uses = λ setup happened state outcome held left. UsesGroup happened outcome.told held left;
   Faults = λ setup happened state end held left. FaultsGroup happened held left;
-  Lacks = λ setup state held left. held.faults ≤ left.faults;
+  Lacks = λ setup state servers held left. held.faults ≤ left.faults;
   Outlives = λ held left. held.faults ≤ left.faults;
   Rises = RisesGroup;
   Wild = λ servers net entries seen. ⊥;
@@ -56,6 +66,7 @@ group_kit n = record {
 abbrev pub group_script : Script Peers DiskSeen
 group_script = record {
   Leads = GroupHappens;
+  Shares = λ next state. Unit {0};
   Ends = GroupEnds;
   Allows = λ line. Unit {0};
   Uses = λ next setup happened state outcome held left. UsesLine next happened outcome.told held left;

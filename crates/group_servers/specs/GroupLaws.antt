@@ -15,7 +15,8 @@ use Rattle.group_cluster.specs.Answering.{net_answering, lines_answering}
 use Rattle.cluster_events.proofs.Carrying.{IsTold}
 use Rattle.cluster_events.proofs.Telling.{Says-told}
 use Rattle.group_cluster.specs.Seats.{Seat, Peers, IsGroup, is_sent, is_took, any_seat, on_seats}
-use Rattle.group_cluster.specs.Falling.{with_core, looked_at, taken_by, commitment}
+use Rattle.cluster_events.specs.Cores.{with_core}
+use Rattle.group_cluster.specs.Falling.{looked_at, taken_by, commitment}
 use Rattle.group_cluster.specs.Group.{sent_to, accept_group, group}
 use Rattle.group_cluster.proofs.Stepping.{Bears}
 use Rattle.group_cluster.proofs.Serving.{group-carries, group-stepped}
@@ -183,10 +184,9 @@ group_laws n = record {
   left_between = λ setup state held left begins steady range leaves. left-between setup state held.files left.files begins steady.sound range leaves;
   between_behind = λ setup middle past held told left leaves between. between-behind setup middle past held.files told.files left.files leaves between;
   shown = λ one beside. refl;
-  told = λ setup state seen tells. tells;
   read_armed = λ peers one two beside read is. read.armed ∙ is;
   read_left = λ setup state one two beside read tells. read.files ∙ left-same setup state one.files tells;
-  read_lacks = λ setup state one two beside read faults. stood-later one two faults;
+  read_lacks = λ setup state servers one two beside read faults. stood-later one two faults;
   read_outlives = λ one two beside read faults. stood-later one two faults;
   read_rises = λ one two beside read later rose. record { later = later; rose = rose };
   unused = λ setup state outcome seen same. uses-none seen outcome.told;
@@ -195,8 +195,8 @@ group_laws n = record {
   used_printed = λ setup happened state outcome held left uses. uses-printed happened outcome.told held left uses;
   faults_behind = λ setup one two state first end held told left before after.
       faults-behind (answered_in first.state) one two first.told held told left before after;
-  lacks_same = λ setup state seen. le_refl seen.faults;
-  lacks_behind = λ setup happened state first held told left before after. le_trans before.later after;
+  lacks_same = λ setup state servers seen. le_refl seen.faults;
+  lacks_behind = λ setup happened state first servers held told left before after. le_trans before.later after;
   stands = λ seen. le_refl seen.faults;
   further = λ one two three first second. le_trans first second;
   rises = λ one two three first second. record {

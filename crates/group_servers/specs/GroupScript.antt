@@ -2,6 +2,7 @@
 use Rattle.std.specs.Prelude.{ℕ, length, ◌≡◌, List}
 use Rattle.std.proofs.Common.{refl, arith}
 use Rattle.disk_model.specs.Seen.{DiskSeen}
+use Rattle.disk_model.specs.declared.answers.DiskAnswer.TheVariants.{Stopped}
 use Rattle.script_lines.specs.declared.line.Line.{Line}
 use Rattle.script_lines.specs.declared.line.Line.TheVariants as line
 use Rattle.cluster_facts.specs.Service.{Plain}
@@ -10,6 +11,7 @@ use Rattle.cluster_events.specs.Outcomes.{Outcome}
 use Rattle.cluster_events.specs.Servers.{State}
 use Rattle.cluster_events.specs.Devices.{Device}
 use Rattle.cluster_events.specs.Running.{Shelf, Happens}
+use Rattle.cluster_events.proofs.NeverEnds.{settle-never}
 use Rattle.group_cluster.specs.Seats.{Peers, hand_number}
 use Rattle.group_cluster.specs.Group.{group}
 use Rattle.group_cluster.specs.Running.{GroupHappens}
@@ -17,7 +19,7 @@ use Rattle.cluster_lines.specs.Following.{IsInHand, IsScript}
 use Rattle.cluster_events.specs.Lines.{Told}
 use Rattle.group_servers.specs.GroupCounts.{UsesLine}
 use Rattle.group_servers.specs.GroupUses.{stood-later}
-use Rattle.group_servers.specs.GroupKit.{group_kit, group_script}
+use Rattle.group_servers.specs.GroupKit.{group_ends, group_kit, group_script}
 
 shares : (plain : Plain) (shelf : Shelf) (device : Device) (next : Line) (state : State Peers) (outcome : Outcome (State Peers))
     → Happens plain shelf (group plain device) next state outcome → GroupHappens plain shelf device next state outcome
@@ -43,11 +45,13 @@ calm-uses next told held left same = record {
 
 pub group_follows : (n : ℕ) → IsScript (group_kit n) group_script
 group_follows n = record {
-  shares = shares;
-  settles = λ plain device state whole ends. record { whole = whole; ends = ends; is = refl };
-  in_hand = λ plain device state. in-hand (length state.world.core.answered) state.world.core.hand;
+  shares = λ plain shelf device next state outcome seen shared stands armed happens. shares plain shelf device next state outcome happens;
+  settles = λ plain device state whole stands ends. record { whole = whole; ends = ends; is = refl };
+  halts = λ plain shelf device state whole stands ends. absurd (settle-never plain (group plain device) (group_ends Stopped plain device) (λ now last stops. stops) state whole ends);
+  in_hand = λ plain device state stands. in-hand (length state.world.core.answered) state.world.core.hand;
+  told = λ setup next state seen shows stands tells. tells;
   settled = λ setup happened state outcome held left uses. record { caused = uses.caused; later = uses.later; felled = λ less. (refl, uses.felled less) };
   settle_faults = λ setup happened state end held left faults. faults;
-  unused = λ next setup state outcome seen shared same. calm-uses next outcome.told seen seen refl;
-  read = λ next setup state outcome one two beside looks shared unsettled read faults same. calm-uses next outcome.told one two faults;
+  unused = λ next setup state outcome seen shared shown same. calm-uses next outcome.told seen seen refl;
+  read = λ next setup state outcome one two beside looks shared shows read faults same. calm-uses next outcome.told one two faults;
 }

@@ -2,6 +2,7 @@
 use Rattle.std.specs.Prelude.{◌≡◌, ℕ, Bool, true, false, nat_lt, Option, Some, None, List, length}
 use Rattle.script_lines.specs.declared.line.Line.{Line}
 use Rattle.script_lines.specs.declared.line.Server.{Server}
+use Rattle.disk_model.specs.declared.answers.DiskAnswer.TheVariants.{Failed}
 use Rattle.plain_service.specs.Setups.{Setup}
 use Rattle.cluster_events.specs.Outcomes.{Outcome}
 use Rattle.cluster_events.specs.Servers.{State}
@@ -74,7 +75,9 @@ module _ (n : ℕ) where
 
   -- where they end by a fault of the disk
   abbrev pub EndsWork : EndOver (group_kit n)
-  EndsWork setup fails state end = EndsGroup (device_by setup fails) state end
+  EndsWork Failed setup fails state end = EndsGroup (device_by setup fails) state end
+  EndsWork _ setup fails state end = ⊥
 
   abbrev pub EndsCrashed : Server → EndOver (group_kit n)
-  EndsCrashed server setup fails state end = EndsCrash (device_by setup fails) server state end
+  EndsCrashed server Failed setup fails state end = EndsCrash (device_by setup fails) server state end
+  EndsCrashed server _ setup fails state end = ⊥

@@ -21,6 +21,10 @@ pub play-played-requires-clause-can : goal.play-played-requires-clause-can
 play-played-requires-clause-can g c κs within =
     subst (λ (parts : Cluster (Group 2)). CanPlay group_script parts.now c.args.line.now) (sym c.take_parts-parts.ensures) (can-play c.args.world.now.now c.args.line.now c.requires.line)
 
+-- a line is shared in each state of a group
+pub play-played-requires-clause-shares : goal.play-played-requires-clause-shares
+play-played-requires-clause-shares g c κs within = λ setup state good shows. tt
+
 pub returns-clause-ok : goal.returns-clause-ok
 returns-clause-ok g c =
     let held = g.D.SharedDisk.seen c.args.disk.now in
