@@ -31,4 +31,4 @@ FallsByCause before next told state outcome after =
 
 -- and where the count rose in a line that was done, it is one that works entries, and tells that a server is down
 abbrev pub FaultsFell : LineSentence Peers
-FaultsFell before next told state outcome after = (before ≤ after) × FellIn next before after outcome.told
+FaultsFell before next told state outcome after = (before ≤ after) × FellIn 1 next before after outcome.told

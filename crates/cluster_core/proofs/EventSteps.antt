@@ -1,5 +1,6 @@
 -- An event of a world is one of its parts.
-use Rattle.std.proofs.Common.{◌≡◌, ℕ, List, [], ◌++◌, refl, ap, sym, ◌∙◌, subst}
+use Rattle.std.proofs.Common.{◌≡◌, ℕ, ◌≤◌, List, [], ◌++◌, refl, ap, sym, ◌∙◌, subst, arith}
+use Rattle.std.proofs.lemmas.Bool.{ltb-true}
 use Rattle.std.specs.Prelude.{ℤ}
 use Rattle.disk_model.specs.Seen.{DiskSeen}
 use Rattle.disk_model.specs.declared.answers.DiskAnswer.TheVariants.{Memory, Failed, Stopped}
@@ -11,11 +12,12 @@ use Rattle.wire.specs.declared.message.Message.{Message}
 use Rattle.plain_service.specs.Setups.{Setup}
 use Rattle.cluster_facts.specs.Types.{Entry}
 use Rattle.cluster_facts.specs.History.{Hand, Empty, Waiting, Applied, Ready}
+use Rattle.cluster_events.specs.Lines.{Told}
 use Rattle.cluster_events.specs.Servers.{State}
 use Rattle.event_text.specs.Texts.{printed}
 use Rattle.mirror.specs.declared.state.NodeState.{NodeState as Node}
 use Rattle.group_cluster.specs.Seats as defined
-use Rattle.group_cluster.specs.Seats.{Stance, Out, Owed, Linking, Standby, Peers}
+use Rattle.group_cluster.specs.Seats.{Stance, Out, Owed, Linking, Standby, Peers, count_seats, is_standby}
 use Rattle.cluster_rounds.specs.declared.cluster.Cluster.{Cluster}
 use Rattle.cluster_rounds.specs.Broken as cluster
 use Rattle.cluster_rounds.specs.Worlds as clusters
@@ -25,6 +27,8 @@ use Rattle.group_servers.specs.declared.group.Seat.{Seat}
 use Rattle.group_servers.specs.declared.group.Group.{Group}
 use Rattle.group_servers.specs.GroupKit.{group_kit, group_script}
 use Rattle.group_servers.specs.GroupNodes.{active_by, node_by, seats_by}
+use Rattle.group_servers.specs.GroupCounts.{FellIn}
+use Rattle.group_servers.proofs.FallSteps.{few-standbys}
 use Rattle.cluster_core.specs.Game.{world_game}
 use Rattle.cluster_core.specs.declared.world.World.{World}
 use Rattle.cluster_core.specs.Worlds.{IsGood, Shows, named, parts_of, seats_beside, unnamed, view_of}
@@ -95,6 +99,11 @@ can-play now (line.Cluster start queue callbacks alarm ntf sys) can = can
 can-play now (line.Time later) can = can
 can-play now _ can = tt
 
+-- with one standby at most no crash outlives a fault
+few-fell : (standbys : ℕ) (next : Line) (before now : ℕ) (told : List Told) → standbys ≤ 1 → FellIn standbys next before now told → FellIn 1 next before now told
+few-fell standbys (line.Crash server) before now told few fell = λ less. let more = ltb-true 1 standbys (fell less).0 in absurd (omega arith)
+few-fell standbys _ before now told few fell = λ less. fell less
+
 -- **what a line led the parts to it led the world to**
 pub does-event : (next : Line) (old new : World) (before after lines : List (List ℕ)) (held left : DiskSeen) → before ≡ [] → lines ≡ after → PlaysWhole next old new before after held left → (DoesEvent world_game) next lines old new (view_of held) (view_of left)
 does-event next old new before after lines held left none same whole setup state good shows armed tells =
@@ -107,7 +116,7 @@ does-event next old new before after lines held left none same whole setup state
         shown = done.shelf_is;
         step = record { fails = done.happened; happens = done.leads; caused = done.uses.caused };
         later = done.uses.later;
-        felled = done.uses.felled;
+        felled = few-fell (count_seats is_standby state.peers.seats) next held.faults left.faults done.outcome.told (few-standbys state.peers.acting state.peers.seats good.steady.good.names good.steady.good.apart) done.uses.felled;
       };
       good = done.is.1;
       shows = whole-shows setup done.outcome.state parts new whole.1 done.is.1 done.is.0;

@@ -34,4 +34,4 @@ pub record LineDone (setup : Setup) (held : Option Files) (before : ℕ) (next :
   pub shown : IfSome held (λ _. shelf ≡ shelf_of setup)
   pub step : GroupStep (plain_of setup) shelf (calls_by setup) before next state outcome after
   pub later : before ≤ after
-  pub felled : FellIn next before after outcome.told
+  pub felled : FellIn 1 next before after outcome.told

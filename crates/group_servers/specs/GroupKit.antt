@@ -11,7 +11,7 @@ use Rattle.cluster_events.specs.Ending.{EndAt}
 use Rattle.mirror.specs.Replicas.{down}
 use Rattle.mirror.specs.Pairing.{alone}
 use Rattle.cluster_facts.specs.History.{Empty}
-use Rattle.group_cluster.specs.Seats.{Peers, IsGroup}
+use Rattle.group_cluster.specs.Seats.{Peers, IsGroup, count_seats, is_standby}
 use Rattle.group_cluster.specs.Group.{group}
 use Rattle.group_cluster.specs.Running.{GroupHappens}
 use Rattle.group_cluster.specs.Ended.{EndsGroupStep, GroupEnds}
@@ -69,6 +69,6 @@ group_script = record {
   Shares = λ next state. Unit {0};
   Ends = GroupEnds;
   Allows = λ line. Unit {0};
-  Uses = λ next setup happened state outcome held left. UsesLine next happened outcome.told held left;
+  Uses = λ next setup happened state outcome held left. UsesLine (count_seats is_standby state.peers.seats) next happened outcome.told held left;
   Faults = λ next setup happened state end held left. FaultsGroup happened held left;
 }

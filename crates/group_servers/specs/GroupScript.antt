@@ -36,7 +36,7 @@ in-hand past (Applied entry) = λ none. cc
 in-hand past (Ready entry) = λ none. cc
 
 -- where the count of faults stood nothing more is said
-pub calm-uses : (next : Line) (told : List Told) (held left : DiskSeen) → left.faults ≡ held.faults → UsesLine next (λ number. 0) told held left
+pub calm-uses : {standbys : ℕ} (next : Line) (told : List Told) (held left : DiskSeen) → left.faults ≡ held.faults → UsesLine standbys next (λ number. 0) told held left
 calm-uses next told held left same = record {
   caused = λ never number. refl;
   later = stood-later held left same;
