@@ -3,8 +3,7 @@ use Rattle.std.proofs.Common.{◌≡◌, ◌⊎◌, ℕ, zero, suc, ◌^◌, ◌
 use Rattle.std.specs.Prelude.{codes, option_and_then}
 use Rattle.std.specs.Fmt.{decimal}
 use Rattle.std.specs.List.{list_any}
-use Rattle.std.proofs.Math.Bool.{and-false}
-use Rattle.std.proofs.lemmas.Bool.{eqb-true, or_cases}
+use Rattle.std.proofs.lemmas.Bool.{and_left, and_right, eqb-true, or_cases}
 use Rattle.std.proofs.lemmas.Fmt.{decimal_digit, first_decimal}
 use Rattle.std.proofs.lemmas.Slice.Eq.{bytes_eq-Decides}
 use Rattle.command_line.specs.Lines.{is_dashed, is_line, line_of}
@@ -77,22 +76,16 @@ nothing-then : {X Y : Type 0} (one : Option X) (f : X → Option Y) → ((x : X)
 nothing-then None f none = refl
 nothing-then (Some x) f none = none x
 
-shut-left : (one two : Bool) → one ≡ false → (one && two) ≡ false
-shut-left one two closed = ap (λ b. b && two) closed
-
-shut-right : (one two : Bool) → two ≡ false → (one && two) ≡ false
-shut-right one two closed = ap (λ b. one && b) closed ∙ and-false one
-
 no-lone : (word : List ℕ) → is_dashed word ≡ true → lone_command word ≡ None
 no-lone word dashed = rw (other-word word (codes "run") dashed refl, other-word word (codes "check") dashed refl) refl
 
 no-expr : (word name text : List ℕ) → AnyDashed (word ∷ name ∷ text ∷ []) → expr_command word name text ≡ None
 no-expr word name text (inl dashed) =
-    guarded (is_word word (codes "expr") && not (is_dashed text)) _ (inl (shut-left (is_word word (codes "expr")) (not (is_dashed text)) (other-word word (codes "expr") dashed refl)))
+    guarded (is_word word (codes "expr") && not (is_dashed text)) _ (inl (and_left (is_word word (codes "expr")) (not (is_dashed text)) (other-word word (codes "expr") dashed refl)))
 no-expr word name text (inr (inl dashed)) =
     guarded (is_word word (codes "expr") && not (is_dashed text)) _ (inr (rw (no-kind name dashed) refl))
 no-expr word name text (inr (inr (inl dashed))) =
-    guarded (is_word word (codes "expr") && not (is_dashed text)) _ (inl (shut-right (is_word word (codes "expr")) (not (is_dashed text)) (ap not dashed)))
+    guarded (is_word word (codes "expr") && not (is_dashed text)) _ (inl (and_right (is_word word (codes "expr")) (not (is_dashed text)) (ap not dashed)))
 no-expr word name text (inr (inr (inr never))) = absurd never
 
 no-gen : (count seed : List ℕ) → AnyDashed (count ∷ seed ∷ []) → gen_command count seed ≡ None
@@ -127,9 +120,9 @@ no-scan word name text size dashed =
     let plain = not (is_dashed text) in
     let records = records_command name size shown.All in
     guarded (asks && plain) records (elim dashed [
-      | inl first ↦ inl (shut-left asks plain (other-word word (codes "scan") first refl))
+      | inl first ↦ inl (and_left asks plain (other-word word (codes "scan") first refl))
       | inr (inl second) ↦ inr (no-records name size shown.All (inl second))
-      | inr (inr (inl third)) ↦ inl (shut-right asks plain (ap not third))
+      | inr (inr (inl third)) ↦ inl (and_right asks plain (ap not third))
       | inr (inr (inr (inl fourth))) ↦ inr (no-records name size shown.All (inr (inl fourth)))
       | inr (inr (inr (inr never))) ↦ absurd never
     ])
@@ -140,12 +133,12 @@ no-find word name text size token wanted dashed =
     let plain = not (is_dashed text) in
     let also = not (is_dashed wanted) in
     guarded (asks && (plain && also)) _ (elim dashed [
-      | inl first ↦ inl (shut-left asks (plain && also) (other-word word (codes "find") first refl))
+      | inl first ↦ inl (and_left asks (plain && also) (other-word word (codes "find") first refl))
       | inr (inl second) ↦ inr (nothing-then (number_of 1 1024 token) _ (λ number. no-records name size (shown.Having number) (inl second)))
-      | inr (inr (inl third)) ↦ inl (shut-right asks (plain && also) (shut-left plain also (ap not third)))
+      | inr (inr (inl third)) ↦ inl (and_right asks (plain && also) (and_left plain also (ap not third)))
       | inr (inr (inr (inl fourth))) ↦ inr (nothing-then (number_of 1 1024 token) _ (λ number. no-records name size (shown.Having number) (inr (inl fourth))))
       | inr (inr (inr (inr (inl fifth)))) ↦ inr (rw (no-number 1 1024 token (omega arith) fifth) refl)
-      | inr (inr (inr (inr (inr (inl sixth))))) ↦ inl (shut-right asks (plain && also) (shut-right plain also (ap not sixth)))
+      | inr (inr (inr (inr (inr (inl sixth))))) ↦ inl (and_right asks (plain && also) (and_right plain also (ap not sixth)))
       | inr (inr (inr (inr (inr (inr never))))) ↦ absurd never
     ])
 

@@ -1,6 +1,7 @@
 //! The words of the command line.
 ghost use Rattle.std.specs.Prelude.{◌≡◌, ◌<◌, ◌^◌, IfOk, map, string_bytes};
-ghost use Rattle.aisrun.specs.Commands.{command_of, command_of_three, expr_command, find_command, gen_command, kind_of_word, load_command, lone_command, number_of, record_size, records_command, scan_command, text_of, wanted_of};
+ghost use Rattle.aisrun.specs.Commands.{command_of, command_of_three, expr_command, find_command, gen_command, kind_of_word, load_command};
+ghost use Rattle.aisrun.specs.Commands.{lone_command, number_of, record_size, records_command, scan_command, text_of, wanted_of};
 
 use ais_values::StreamKind;
 use command_line::{is_dashed, read_line};

@@ -2,7 +2,8 @@
 ghost use Rattle.std.specs.Prelude.{◌≡◌, ◌≤◌, None, Some, length};
 ghost use Rattle.played_runs.specs.Counts.{HasRisen, NoneRises, RisesBy};
 ghost use Rattle.played_runs.specs.Edges.{disk_edge, edge, fault_count, stage};
-ghost use Rattle.played_runs.specs.Promises.{CallsBack, CommitsInTime, KeepsFiles, KeepsOneHistory, KeepsRecords, PrintsPosts, ReadsRightly, RepliesRightly, SettlesAll, StandsOnce};
+ghost use Rattle.played_runs.specs.Promises.{CallsBack, CommitsInTime, KeepsFiles, KeepsOneHistory, KeepsRecords};
+ghost use Rattle.played_runs.specs.Promises.{PrintsPosts, ReadsRightly, RepliesRightly, SettlesAll, StandsOnce};
 ghost use Rattle.played_runs.specs.Refusing.{DeclinesRightly};
 ghost use Rattle.played_runs.specs.Telling.{TellsOnce};
 ghost use Rattle.played_runs.specs.Writing.{Ended, unasked};

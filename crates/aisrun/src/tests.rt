@@ -421,8 +421,17 @@ fn the_first_reason_ends_the_run(rt: HostRuntime) {
 }
 
 /// The lines before the record's deeds.
-const BEFORE: &str =
-    "post 1 req 1 1\npost 2 req 1 2\npost 3 req 1 3\nacc 1 call 1 1 1704067200000000000\npost 4 rep 1 1\nreply 1 1 ok\nacc 2 call 1 2 1704067200000000000\npost 5 rep 1 2\nreply 1 2 ok\nacc 3 call 1 3 1704067200000000000\n";
+const BEFORE: &str = "\
+    post 1 req 1 1\n\
+    post 2 req 1 2\n\
+    post 3 req 1 3\n\
+    acc 1 call 1 1 1704067200000000000\n\
+    post 4 rep 1 1\n\
+    reply 1 1 ok\n\
+    acc 2 call 1 2 1704067200000000000\n\
+    post 5 rep 1 2\n\
+    reply 1 2 ok\n\
+    acc 3 call 1 3 1704067200000000000\n";
 
 /// What the standby prints where the active server fails in these deeds: it does them again, and answers the repeated call.
 const TAKEN_OVER: &str = "server a down\nserver b active\npost 6 rep 1 3\nreply 1 3 ok\n";
@@ -482,11 +491,23 @@ const ANSWERED: &str =
 
 const SHOWING: &str = "files\ncat \"saLogSystem.cfg\"\n";
 
-const FILES: &str =
-    "file saLogAlarm.cfg 156\nfile saLogAlarm_20240101_000000.log 0\nfile saLogNotification.cfg 163\nfile saLogNotification_20240101_000001.log 0\nfile saLogSystem.cfg 164\nfile saLogSystem_20240101_000002.log 0\n";
+const FILES: &str = "\
+    file saLogAlarm.cfg 156\n\
+    file saLogAlarm_20240101_000000.log 0\n\
+    file saLogNotification.cfg 163\n\
+    file saLogNotification_20240101_000001.log 0\n\
+    file saLogSystem.cfg 164\n\
+    file saLogSystem_20240101_000002.log 0\n";
 
-const SYSTEM: &str =
-    "text STREAM: system\ntext VERSION: A.02.01\ntext FORMAT: @Cr @Ch:@Cn:@Cs @Cm/@Cd/@CY @Sv @Sl \"@Cb\"\ntext MAX_FILE_SIZE: 262144\ntext RECORD_SIZE: 256\ntext FULL_ACTION: ROTATE\ntext ROTATED_FILES: 4\ntext HA: 0\n";
+const SYSTEM: &str = "\
+    text STREAM: system\n\
+    text VERSION: A.02.01\n\
+    text FORMAT: @Cr @Ch:@Cn:@Cs @Cm/@Cd/@CY @Sv @Sl \"@Cb\"\n\
+    text MAX_FILE_SIZE: 262144\n\
+    text RECORD_SIZE: 256\n\
+    text FULL_ACTION: ROTATE\n\
+    text ROTATED_FILES: 4\n\
+    text HA: 0\n";
 
 /// Where the reading call of this number fails, the line prints this all the same: it does not make that call.
 fn makes_fewer<R: Abort + Threads + Wait + Sync>(

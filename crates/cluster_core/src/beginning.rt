@@ -96,7 +96,10 @@ fn start_standby(
     match Service::new(alloc, start, queue, wells) {
         Ok((service, deeds)) => {
             mem::drop(deeds);
-            Node::start(alloc, Role::Standby, service)
+            match Node::start(alloc, Role::Standby, service) {
+                Ok(node) => Ok(node),
+                Err(error) => Err(error),
+            }
         }
         Err(error) => Err(error),
     }

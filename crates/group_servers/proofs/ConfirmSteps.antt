@@ -1,5 +1,6 @@
 -- What a message comes to that comes back to the active server.
 use Rattle.std.proofs.Common.{◌≡◌, ℕ, suc, ℤ, Bool, true, false, ◌&&◌, ◌||◌, not, ◌⊎◌, inl, inr, if◌then◌else◌, Option, Some, None, List, [], ◌∷◌, ◌++◌, length, map, refl, ap, sym, ◌∙◌, subst, append-nil}
+use Rattle.std.proofs.lemmas.Bool.{or_parts}
 use Rattle.script_lines.specs.declared.line.Server.{Server}
 use Rattle.wire.specs.declared.message.Message.{Message}
 use Rattle.wire.specs.declared.message.Message.TheVariants as wire
@@ -189,15 +190,11 @@ confirmed-none : (message : Message) (moment : ℤ) (old : Node) (heard : Heard)
 confirmed-none (wire.MirrorAck number) moment old heard new is received = received.1
 confirmed-none _ moment old heard new is received = cc
 
-or-parts : (one other : Bool) → (one || other) ≡ false → (one ≡ false) × (other ≡ false)
-or-parts false other none = (refl, none)
-or-parts true other none = cc
-
 -- another message leaves it so: it waited for nothing, or waits on
 unwaited : (hand : Hand) (owns : List defined.Seat) → WaitsFor hand owns → (any_seat is_sent owns || any_seat is_took owns) ≡ false → waits_by hand ≡ None
 unwaited Empty owns waits none = refl
 unwaited (Waiting entry) owns waits none = let is = sym (ap (λ b. b || any_seat is_took owns) waits) ∙ none in cc
-unwaited (Applied entry) owns waits none = let is = sym waits ∙ (or-parts (any_seat is_sent owns) (any_seat is_took owns) none).1 in cc
+unwaited (Applied entry) owns waits none = let is = sym waits ∙ (or_parts (any_seat is_sent owns) (any_seat is_took owns) none).1 in cc
 unwaited (Ready entry) owns waits none = refl
 
 -- by whether the message confirms an entry, and whether one still waits

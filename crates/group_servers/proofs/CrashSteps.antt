@@ -20,10 +20,11 @@ use Rattle.mirror.specs.declared.state.NodeState.{NodeState as Node}
 use Rattle.mirror.proofs.ReplicaLaws.{count-is}
 use Rattle.lead_server.specs.Parting.{waiting_in, waiting_lines}
 use Rattle.group_cluster.specs.Seats as defined
-use Rattle.group_cluster.specs.Seats.{Stance, Out, Owed, Linking, Standby, Clear, Sent, Took, Peers, any_seat, count_seats, names_of, same_server, is_standby}
+use Rattle.group_cluster.specs.Seats.{Peers, any_seat, count_seats, same_server, is_standby}
 use Rattle.group_cluster.specs.Falling.{catches, caught, caught_seats, caught_hand, caught_lines, is_fresh, crash, crash_active, crash_by, taken_over}
 use Rattle.group_cluster.specs.Ended.{HasCalls}
-use Rattle.group_cluster.proofs.Seating.{apart-caught, any-on, names-on, same-is}
+use Rattle.group_cluster.proofs.Crashing.{caught-standby as stands-caught}
+use Rattle.group_cluster.proofs.Seating.{apart-caught, any-on, same-is}
 use Rattle.group_cluster.proofs.Sounding.{caught-accepts}
 use Rattle.cluster_clients.specs.Clients.{ShowsAgents}
 use Rattle.cluster_clients.specs.Spelled.{AreSpelled}
@@ -54,7 +55,7 @@ use Rattle.group_servers.specs.Tries.{TriesPartly, Tries}
 use Rattle.group_servers.proofs.DeliverSteps.{MayCome}
 use Rattle.group_servers.proofs.EndSteps.{ended-by}
 use Rattle.group_servers.proofs.FallLines.{takers-wayless}
-use Rattle.group_servers.proofs.FallShows.{TellsCount}
+use Rattle.group_servers.proofs.FallShows.{TellsCount, names-caught}
 use Rattle.group_servers.proofs.FallSteps.{wayless-bare, caught-bare, fit-seats, few-of, few-standbys, count-some, tried, failed-are, took-own, took-lines, took-unarmed, took-files, plain-good, stale, fell-fell, fell-lines, fell-last, fell-calls, fell-files, tries-later, partly-later}
 use Rattle.group_servers.proofs.GoodSteps.{answered-history, accepted-history}
 use Rattle.group_servers.proofs.GroupFiles.{rest-goes-on}
@@ -113,21 +114,9 @@ fresh-wayless : (seats : List Seat) → list_any code.is_fresh (all_wayless seat
 fresh-wayless [] = refl
 fresh-wayless (seat ∷ seats) = ap (λ b. code.is_fresh seat || b) (fresh-wayless seats)
 
-caught-stands : (stance : Stance) → is_standby (caught stance) ≡ is_standby stance
-caught-stands Out = refl
-caught-stands Owed = refl
-caught-stands (Linking sent) = refl
-caught-stands (Standby on_way Clear keeps) = refl
-caught-stands (Standby on_way Sent keeps) = refl
-caught-stands (Standby on_way Took keeps) = refl
-
 caught-standby : (catching : Bool) (owns : List defined.Seat) → any_seat is_standby (caught_seats catching owns) ≡ any_seat is_standby owns
-caught-standby true owns = any-on is_standby caught caught-stands owns
+caught-standby true owns = any-on is_standby caught stands-caught owns
 caught-standby false owns = refl
-
-caught-names : (catching : Bool) (owns : List defined.Seat) → names_of (caught_seats catching owns) ≡ names_of owns
-caught-names true owns = names-on caught owns
-caught-names false owns = refl
 
 has-calls : (setup : Setup) (fails : ℕ → ℕ) (history : List Entry) → 1 ≤ length (row_calls setup false history) → HasCalls (device_by setup fails) history
 has-calls setup fails [] some = absurd (omega arith)
@@ -207,7 +196,7 @@ module _ (n : ℕ) where
 
     few : count_seats is_standby owns ≤ 1
     few =
-        few-standbys state.peers.acting owns (caught-names catching_so state.peers.seats ∙ good.steady.good.names) (apart-caught state.peers.acting catching_so state.peers.seats good.steady.good.apart)
+        few-standbys state.peers.acting owns (names-caught catching_so state.peers.seats ∙ good.steady.good.names) (apart-caught state.peers.acting catching_so state.peers.seats good.steady.good.apart)
 
     module _ (new : Cluster (Group n)) (after : List (List ℕ)) (held left : DiskSeen) (result : Result (Unit {0}) DiskAnswer) (falls : Falls catching fresh result mid new prepared.front after held left) (standby : any_seat is_standby state.peers.seats ≡ true) where
       net-is : new.net ≡ old.net

@@ -1,6 +1,7 @@
 -- What a message that reaches a server beside the active one comes to.
 use Rattle.std.proofs.Common.{◌≡◌, ℕ, suc, Bool, true, false, Option, Some, None, List, [], ◌∷◌, ◌++◌, ◌⊎◌, inl, inr, ◌||◌, length, map, refl, ap, sym, ◌∙◌, subst, arith}
 use Rattle.std.specs.List.{AllByRecursion}
+use Rattle.std.proofs.lemmas.Bool.{or_right}
 use Rattle.script_lines.specs.declared.line.Server.{Server}
 use Rattle.wire.specs.declared.message.Message.{Message}
 use Rattle.wire.specs.declared.message.Message.TheVariants as wire
@@ -92,10 +93,6 @@ CameBy _ committed told sent took = ⊥
 or-here : (one other : Bool) → one ≡ true → (one || other) ≡ true
 or-here one other is = ap (λ b. b || other) is
 
-or-there : (one other : Bool) → other ≡ true → (one || other) ≡ true
-or-there true other is = refl
-or-there false other is = is
-
 came-here : (hand : Hand) (committed : Option Entry) (told : List Told) (sent took others_sent others_took : Bool) → CameBy hand committed told sent took → CameBy hand committed told (sent || others_sent) (took || others_took)
 came-here (Waiting entry) committed told sent took others_sent others_took (inl came) = inl (came.0, or-here took others_took came.1, came.2)
 came-here (Waiting entry) committed told sent took others_sent others_took (inr came) = inr (came.0, or-here sent others_sent came.1)
@@ -104,8 +101,8 @@ came-here (Applied entry) committed told sent took others_sent others_took came 
 came-here (Ready entry) committed told sent took others_sent others_took came = elim came [ ]
 
 came-there : (hand : Hand) (committed : Option Entry) (told : List Told) (sent took first_sent first_took : Bool) → CameBy hand committed told sent took → CameBy hand committed told (first_sent || sent) (first_took || took)
-came-there (Waiting entry) committed told sent took first_sent first_took (inl came) = inl (came.0, or-there first_took took came.1, came.2)
-came-there (Waiting entry) committed told sent took first_sent first_took (inr came) = inr (came.0, or-there first_sent sent came.1)
+came-there (Waiting entry) committed told sent took first_sent first_took (inl came) = inl (came.0, or_right first_took took came.1, came.2)
+came-there (Waiting entry) committed told sent took first_sent first_took (inr came) = inr (came.0, or_right first_sent sent came.1)
 came-there Empty committed told sent took first_sent first_took came = came
 came-there (Applied entry) committed told sent took first_sent first_took came = elim came [ ]
 came-there (Ready entry) committed told sent took first_sent first_took came = elim came [ ]

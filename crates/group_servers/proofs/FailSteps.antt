@@ -3,6 +3,7 @@ use Rattle.std.proofs.Common.{◌≡◌, ℕ, ◌≤◌, Bool, true, false, ◌&
 use Rattle.std.specs.Prelude.{is_some, Result, Ok, Err, OnErr, IfErr}
 use Rattle.std.specs.List.{list_any}
 use Rattle.std.specs.Option.{option_to_list}
+use Rattle.std.proofs.lemmas.Bool.{not-true}
 use Rattle.calls.specs.History.{Pushed}
 use Rattle.disk_model.specs.declared.answers.DiskAnswer.{DiskAnswer}
 use Rattle.disk_model.specs.Seen.{DiskSeen}
@@ -57,12 +58,6 @@ use Rattle.group_servers.proofs.LookSteps.{looked-seats}
 use Rattle.group_servers.proofs.NameSteps.{names-all, names-once, others-are, up-is}
 use Rattle.group_servers.proofs.PartSteps.{Dropped, Lost, drops-are, lost-is, settled-is}
 use Rattle.group_servers.proofs.SeatSteps.{goes-is, linked-is, waits-is}
-
--- Tests.
-
-not-true : (b : Bool) → not b ≡ true → b ≡ false
-not-true true is = cc
-not-true false is = refl
 
 -- where the active server is armed a standby must be left
 served-by : (armed : Option ℕ) (other : Bool) (outs : List defined.Seat) → other ≡ any_seat is_standby outs → (not (is_some armed) || other) ≡ is_served armed outs

@@ -13,6 +13,7 @@ use Rattle.mirror.specs.Pairing.{taken_over}
 use Rattle.group_cluster.specs.Seats as defined
 use Rattle.group_cluster.specs.Seats.{Mark, Stance, Out, Owed, Linking, Standby, same_server, on_seats, names_of, is_standby, count_seats}
 use Rattle.group_cluster.specs.Falling.{out_at, rejoined, takes, capped, count_fallen, failing}
+use Rattle.group_cluster.proofs.Seating.{same-turned}
 use Rattle.group_servers.specs.declared.group.Seat.{Seat}
 use Rattle.cluster_rounds.specs.Kits.{device_by}
 use Rattle.group_servers.specs.GroupNodes.{active_by, standby_by, node_by, seat_by, seats_by, bare_by, bare}
@@ -41,7 +42,7 @@ none-at setup past history hand acting (own ∷ owns) apart =
     ∙ ap (λ (rest : List Seat). seat_by setup history Empty (own_stance false) ∷ rest) (none-at setup past history hand acting owns apart.1)
     ∙ ap (λ b. seat_by setup history Empty (own_stance b) ∷ seats_by setup history Empty (out_at acting (on_seats rejoined owns))) (sym apart.0)
 
-same-self : (one other : Server) → one ≡ other → same_server one other ≡ true
+pub same-self : (one other : Server) → one ≡ other → same_server one other ≡ true
 same-self one other is = subst (λ s. same_server one s ≡ true) is (self one)
   where
     self : (s : Server) → same_server s s ≡ true
@@ -65,15 +66,9 @@ rejoined-own setup past history hand test acting (suc place) (own ∷ owns) dist
     ∙ ap (λ (more : List Seat). seat_by setup history Empty (own_stance false) ∷ more) rest
     ∙ ap (λ b. seat_by setup history Empty (own_stance b) ∷ seats_by setup history Empty (out_at acting (on_seats rejoined owns))) (sym apart)
   where
-    turned : (one other : Server) → same_server one other ≡ same_server other one
-    turned A A = refl
-    turned A B = refl
-    turned B A = refl
-    turned B B = refl
-
     not-at : (test : Stance → Bool) (acting : Server) (place : ℕ) (owns : List defined.Seat) (name : Server) → AllByRecursion (λ (other : Server). same_server name other ≡ false) (names_of owns) → IsAtPlace test acting place owns → same_server acting name ≡ false
     not-at test acting place [] name apart is = elim is [ ]
-    not-at test acting zero (own ∷ owns) name apart is = ap (λ (s : Server). same_server s name) is.0 ∙ turned own.server name ∙ apart.0
+    not-at test acting zero (own ∷ owns) name apart is = ap (λ (s : Server). same_server s name) is.0 ∙ same-turned own.server name ∙ apart.0
     not-at test acting (suc place) (own ∷ owns) name apart is = not-at test acting place owns name apart.1 is
 
 -- **the one that took over is the active server of the history that goes on**, with nobody linked yet

@@ -2,7 +2,6 @@
 use Rattle.std.proofs.Common.{◌≡◌, ℕ, zero, suc, ◌⊎◌, Bool, true, false, not, ◌||◌, if◌then◌else◌, Some, None, List, [], ◌∷◌, refl, ap, sym, ◌∙◌, subst}
 use Rattle.std.specs.List.{AllByRecursion}
 use Rattle.script_lines.specs.declared.line.Server.{Server}
-use Rattle.script_lines.specs.declared.line.Server.TheVariants.{A, B}
 use Rattle.plain_service.specs.Setups.{Setup}
 use Rattle.cluster_facts.specs.Types.{Entry}
 use Rattle.cluster_facts.specs.History.{Hand, Empty, committed_by}
@@ -15,7 +14,7 @@ use Rattle.group_cluster.specs.Seats as defined
 use Rattle.group_cluster.specs.Seats.{Stance, Out, Owed, Linking, Standby, Peers, AreNames, Agree, same_server, on_seats, names_of, any_seat}
 use Rattle.group_cluster.specs.Falling.{catches, caught_seats, caught_hand, is_fresh, out_at, rejoined, felled, named, next_of, takes, count_fallen}
 use Rattle.group_cluster.specs.Falling as falling
-use Rattle.group_cluster.proofs.Seating.{AllSeats, any-none, names-on, names-felled}
+use Rattle.group_cluster.proofs.Seating.{AllSeats, any-none, names-on, names-felled, same-turned}
 use Rattle.group_cluster.specs.Falling.{caught}
 use Rattle.group_servers.specs.declared.group.Seat.{Seat}
 use Rattle.group_servers.specs.declared.group.Group.{Group}
@@ -28,7 +27,7 @@ use Rattle.group_servers.specs.Falls.{Exchanges}
 use Rattle.disk_model.specs.Seen.{DiskSeen}
 use Rattle.group_servers.specs.Tried.{won_at, IsAtPlace, Tried}
 use Rattle.group_servers.proofs.TriedFiles.{all-follow, all-make}
-use Rattle.group_servers.proofs.FallOwn.{AreDistinct, rejoined-own, led-own, fallen-told}
+use Rattle.group_servers.proofs.FallOwn.{AreDistinct, same-self, rejoined-own, led-own, fallen-told}
 
 -- The server at the place and the active one changed places.
 
@@ -79,7 +78,7 @@ felled-follow past hand test (suc count) (own ∷ owns) follow = by (test own.st
 names-distinct : (names : List Server) → AreNames names → AreDistinct names
 names-distinct names two = subst AreDistinct (sym two) ((refl, tt), (tt, tt))
 
-names-caught : (catching : Bool) (owns : List defined.Seat) → names_of (caught_seats catching owns) ≡ names_of owns
+pub names-caught : (catching : Bool) (owns : List defined.Seat) → names_of (caught_seats catching owns) ≡ names_of owns
 names-caught true owns = names-on caught owns
 names-caught false owns = refl
 
@@ -91,19 +90,6 @@ up-by setup past hand Owed = refl
 up-by setup past hand (Linking sent) = refl
 up-by setup past hand (Standby on_way mark keeps) = refl
 
-same-at : (one other : Server) → one ≡ other → same_server one other ≡ true
-same-at one other is = subst (λ s. same_server one s ≡ true) is (self one)
-  where
-    self : (s : Server) → same_server s s ≡ true
-    self A = refl
-    self B = refl
-
-turned : (one other : Server) → same_server one other ≡ same_server other one
-turned A A = refl
-turned A B = refl
-turned B A = refl
-turned B B = refl
-
 up-none : (setup : Setup) (past : List Entry) (hand : Hand) (acting : Server) (owns : List defined.Seat) → AllByRecursion (λ (other : Server). same_server acting other ≡ false) (names_of owns) → any_up (bare setup past hand owns) ≡ any_seat is_linked (out_at acting (on_seats rejoined owns))
 up-none setup past hand acting [] apart = refl
 up-none setup past hand acting (own ∷ owns) apart =
@@ -114,7 +100,7 @@ up-none setup past hand acting (own ∷ owns) apart =
 
 apart-at : (test : Stance → Bool) (acting : Server) (place : ℕ) (owns : List defined.Seat) (name : Server) → AllByRecursion (λ (other : Server). same_server name other ≡ false) (names_of owns) → IsAtPlace test acting place owns → same_server acting name ≡ false
 apart-at test acting place [] name apart is = elim is [ ]
-apart-at test acting zero (own ∷ owns) name apart is = ap (λ (s : Server). same_server s name) is.0 ∙ turned own.server name ∙ apart.0
+apart-at test acting zero (own ∷ owns) name apart is = ap (λ (s : Server). same_server s name) is.0 ∙ same-turned own.server name ∙ apart.0
 apart-at test acting (suc place) (own ∷ owns) name apart is = apart-at test acting place owns name apart.1 is
 
 up-led : (setup : Setup) (past : List Entry) (hand : Hand) (test : Stance → Bool) (acting : Server) (place : ℕ) (owns : List defined.Seat) → AreDistinct (names_of owns) → IsAtPlace test acting place owns → any_up (left_at place (won_at place (bare setup past hand owns))) ≡ any_seat is_linked (out_at acting (on_seats rejoined owns))
@@ -122,7 +108,7 @@ up-led setup past hand test acting place [] distinct is = elim is [ ]
 up-led setup past hand test acting zero (own ∷ owns) distinct is =
     let apart = subst (λ (s : Server). AllByRecursion (λ (other : Server). same_server s other ≡ false) (names_of owns)) (sym is.0) distinct.0 in
     let S : Bool → Bool = λ b. is_linked (if b then Out else rejoined own.stance) || any_seat is_linked (out_at acting (on_seats rejoined owns)) in
-    up-none setup past hand acting owns apart ∙ ap S (sym (same-at acting own.server is.0))
+    up-none setup past hand acting owns apart ∙ ap S (sym (same-self acting own.server is.0))
 up-led setup past hand test acting (suc place) (own ∷ owns) distinct is =
     let S : Bool → Bool = λ b. is_linked (if b then Out else rejoined own.stance) || any_seat is_linked (out_at acting (on_seats rejoined owns)) in
     ap (λ b. b || any_up (left_at place (won_at place (bare setup past hand owns)))) (up-by setup past hand own.stance)

@@ -1,5 +1,5 @@
 -- The files of servers: what works and crashes leave of them, and whether a work takes the active server down.
-use Rattle.std.proofs.Common.{◌≡◌, ℕ, suc, ◌+◌, ◌<◌, ◌≤◌, inl, inr, Bool, true, false, ◌&&◌, ◌||◌, nat_le, Option, Some, None, List, ◌∷◌, ◌++◌, length, refl, ap, sym, ◌∙◌, subst, arith}
+use Rattle.std.proofs.Common.{◌≡◌, ℕ, suc, ◌+◌, ◌<◌, ◌≤◌, inl, inr, true, false, ◌&&◌, ◌||◌, nat_le, Option, Some, None, List, ◌∷◌, ◌++◌, length, refl, ap, sym, ◌∙◌, subst, arith}
 use Rattle.std.specs.Prelude.{option_map}
 use Rattle.std.proofs.lemmas.Bool.{or_right, and_right}
 use Rattle.std.proofs.lemmas.Bool.Decides.{leb_tells}
@@ -92,18 +92,14 @@ not-reached left calls some short = elim (leb_tells left calls) [
   | inr above ↦ above.0
 ]
 
-and-none : (one other : Bool) → other ≡ false → (one && other) ≡ false
-and-none true other is = is
-and-none false other is = refl
-
 -- **a work that is done does not take the server down**
 pub done-stands : (owns : List defined.Seat) (armed : Option ℕ) (calls fails : ℕ) → fails ≡ 0 → IsArmed armed owns → counts.IsShort calls armed → (any_seat is_standby owns && (fails_in calls fails || counts.reaches calls armed)) ≡ false
 done-stands owns None calls fails not is short =
     let none = and_right (nat_le 1 calls) (nat_le 1 fails) (ap (nat_le 1) not) in
-    and-none (any_seat is_standby owns) (fails_in calls fails || false) (ap (λ b. b || false) none)
+    and_right (any_seat is_standby owns) (fails_in calls fails || false) (ap (λ b. b || false) none)
 done-stands owns (Some left) calls fails not is short =
     let none = and_right (nat_le 1 calls) (nat_le 1 fails) (ap (nat_le 1) not) in
-    and-none (any_seat is_standby owns) (fails_in calls fails || nat_le left calls) (λ i. none i || not-reached left calls is.0 short i)
+    and_right (any_seat is_standby owns) (fails_in calls fails || nat_le left calls) (λ i. none i || not-reached left calls is.0 short i)
 
 reached-more : (left count calls : ℕ) → nat_le left (suc count) ≡ true → count < calls → nat_le left calls ≡ true
 reached-more left count calls reached within = elim (leb_tells left calls) [

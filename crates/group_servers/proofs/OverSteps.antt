@@ -1,6 +1,7 @@
 -- Takeovers: what holds of the states behind them, and what they tell.
-use Rattle.std.proofs.Common.{◌≡◌, ℕ, ◌≤◌, Bool, true, false, ◌||◌, List, [], ◌∷◌, ◌++◌, refl, ap}
+use Rattle.std.proofs.Common.{◌≡◌, ℕ, ◌≤◌, Bool, true, false, List, [], ◌∷◌, ◌++◌, refl, ap}
 use Rattle.std.specs.List.{list_any}
+use Rattle.std.proofs.lemmas.Bool.{or_right}
 use Rattle.script_lines.specs.declared.line.Server.{Server}
 use Rattle.plain_service.specs.Setups.{Setup}
 use Rattle.service_laws.specs.PlainOf.{plain_of}
@@ -55,14 +56,10 @@ left-ends past (Ready entry) false = (entry ∷ [], refl)
 
 -- Lines of roles, behind some that tell of a server that is down.
 
-or-down : (one other : Bool) → other ≡ true → (one || other) ≡ true
-or-down true other is = refl
-or-down false other is = is
-
 all-down : (stands_as : ServerRole) (servers : List Server) (told : List Told) → list_any is_down told ≡ true → list_any is_down (all_stood stands_as servers told) ≡ true
 all-down stands_as [] told is = is
 all-down stands_as (server ∷ servers) told is =
-    all-down stands_as servers (Stood server stands_as ∷ told) (or-down (is_down (Stood server stands_as)) (list_any is_down told) is)
+    all-down stands_as servers (Stood server stands_as ∷ told) (or_right (is_down (Stood server stands_as)) (list_any is_down told) is)
 
 all-kept : (stands_as : ServerRole) (servers : List Server) (told : List Told) → kept_lines told ≡ printed told → kept_lines (all_stood stands_as servers told) ≡ printed (all_stood stands_as servers told)
 all-kept stands_as [] told is = is

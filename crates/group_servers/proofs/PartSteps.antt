@@ -1,6 +1,7 @@
 -- What it comes to that a server goes down which is not active.
 use Rattle.std.proofs.Common.{◌≡◌, ℕ, suc, Bool, true, false, ◌||◌, not, if◌then◌else◌, Option, Some, None, option_map, List, [], ◌∷◌, ◌++◌, length, map, refl, ap, sym, ◌∙◌, subst}
 use Rattle.std.specs.Option.{option_to_list}
+use Rattle.std.proofs.lemmas.Bool.{or_parts}
 use Rattle.script_lines.specs.declared.line.Server.{Server}
 use Rattle.wire.specs.declared.message.Message.{Message}
 use Rattle.plain_service.specs.Setups.{Setup}
@@ -98,10 +99,6 @@ drops-are setup past hand server (own ∷ owns) lost (new ∷ news) once agree d
 
 -- What becomes of the entry in hand.
 
-or-false : (one other : Bool) → (one || other) ≡ false → (one ≡ false) × (other ≡ false)
-or-false true other none = cc
-or-false false other none = (refl, none)
-
 -- an entry that goes to no other server went to that one
 sent-at : (server : Server) (owns : List defined.Seat) → Once (names_of owns) → any_seat is_sent owns ≡ true → any_seat is_sent (out_at server owns) ≡ false → is_sent (stance_of server owns) ≡ true
 sent-at server [] once sent none = cc
@@ -114,7 +111,7 @@ sent-at server (own ∷ owns) once sent none = by (same_server server own.server
         let is : true ≡ false = sym sent ∙ sym same ∙ none in
         cc
     by false is s goes sent none deeper =
-        let parts = or-false (is_sent own.stance) (any_seat is_sent (out_at server owns)) none in
+        let parts = or_parts (is_sent own.stance) (any_seat is_sent (out_at server owns)) none in
         deeper (rest s (sym goes ∙ parts.0) sent) parts.1
       where
         rest : (t : Bool) → t ≡ false → (t || any_seat is_sent owns) ≡ true → any_seat is_sent owns ≡ true

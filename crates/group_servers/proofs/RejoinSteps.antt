@@ -1,7 +1,8 @@
 -- What it comes to that servers join the one that took over.
-use Rattle.std.proofs.Common.{◌≡◌, Bool, true, false, ◌||◌, not, if◌then◌else◌, is_some, Option, Some, None, Result, Ok, Err, List, [], ◌∷◌, refl, ap, sym, ◌∙◌, subst}
+use Rattle.std.proofs.Common.{◌≡◌, Bool, true, false, not, if◌then◌else◌, is_some, Option, Some, None, Result, Ok, Err, List, [], ◌∷◌, refl, ap, sym, ◌∙◌, subst}
 use Rattle.std.specs.Prelude.{IfSome, OnOk}
 use Rattle.std.specs.List.{list_any}
+use Rattle.std.proofs.lemmas.Bool.{or_parts}
 use Rattle.calls.specs.declared.saved.Saved.{Saved}
 use Rattle.wire.specs.declared.message.Message.{Message}
 use Rattle.wire.specs.declared.message.Message.TheVariants.{Snapshot}
@@ -19,10 +20,6 @@ use Rattle.group_servers.proofs.DeliverSteps.{first-of}
 
 -- Nobody joins.
 
-either-false : (one other : Bool) → (one || other) ≡ false → (one ≡ false) × (other ≡ false)
-either-false true other none = cc
-either-false false other none = (refl, none)
-
 stays-one : (down : Bool) (seat other : Seat) → not down ≡ false → seat ≡ (if down then seat else other)
 stays-one true seat other up = refl
 stays-one false seat other up = cc
@@ -30,7 +27,7 @@ stays-one false seat other up = cc
 stays-all : (node : Node) (seats : List Seat) → list_any is_up seats ≡ false → seats ≡ all_rejoin node seats
 stays-all node [] none = refl
 stays-all node (seat ∷ seats) none =
-    let parts = either-false (is_up seat) (list_any is_up seats) none in
+    let parts = or_parts (is_up seat) (list_any is_up seats) none in
     let joined : Seat = record { server = seat.server; node = node; link = []; back = [] } in
     λ i. stays-one (stays_down seat.node.replica.role) seat joined parts.0 i ∷ stays-all node seats parts.1 i
 

@@ -1,5 +1,5 @@
 -- Standbys that tried to take over are what they are by the definitions.
-use Rattle.std.proofs.Common.{◌≡◌, ℕ, zero, suc, ◌+◌, ◌≤◌, Bool, true, false, if◌then◌else◌, Option, Some, None, option_map, List, [], ◌∷◌, ◌++◌, ◌<◌, length, refl, ap, sym, ◌∙◌, subst, arith, le_trans}
+use Rattle.std.proofs.Common.{◌≡◌, ℕ, zero, suc, ◌+◌, ◌≤◌, Bool, true, false, if◌then◌else◌, Option, Some, None, option_map, List, [], ◌∷◌, ◌++◌, ◌<◌, length, refl, ap, sym, ◌∙◌, subst, arith, le_refl, le_trans}
 use Rattle.disk_model.specs.Disk.{Files}
 use Rattle.disk_model.specs.DeviceCalls.{DeviceCall, LeftBy, BreaksOff}
 use Rattle.stream_layout.specs.Deeds.{calls_of_all}
@@ -21,9 +21,6 @@ use Rattle.group_servers.specs.Tries.{takes, Tries, TriesOne}
 use Rattle.group_servers.specs.Tries.Tries.{nobody, passes, fails, takes_over}
 use Rattle.group_servers.specs.Tried.{won_at, won, HasLeft, IsAtPlace, IsNext, Tried}
 use Rattle.group_servers.proofs.DeliverSteps.{first-of, rest-of}
-
-same_or_more : (n : ℕ) → n ≤ n
-same_or_more n = omega arith
 
 no-one : 1 ≤ 0 → ⊥
 no-one some = omega arith
@@ -174,13 +171,13 @@ took-one setup past hand fresh seat now own owns held left is it one =
           let was = ap length (takers-one fresh (bare_by setup past hand own) (bare setup past hand owns) (ap (takes fresh) (sym is) ∙ it)) in
           let are = ap length (takers-not fresh now (bare setup past hand owns) (ap (takes fresh) one.0)) in
           omega arith;
-      later = subst (λ n. held.faults ≤ n) (sym one.3) (same_or_more held.faults);
+      later = subst (λ n. held.faults ≤ n) (sym one.3) (le_refl held.faults);
       caused = λ (some : 1 ≤ 0). absurd (no-one some);
       calls = λ calls makes (some : 1 ≤ 0). absurd (no-one some);
     }
 
 pub tried-so : (setup : Setup) (past : List Entry) (hand : Hand) (fresh : Bool) (owns : List defined.Seat) (seats new : List Seat) (found : Option ℕ) (held left : DiskSeen) → seats ≡ bare setup past hand owns → Tries fresh seats new found held left → Tried setup past hand fresh owns new found held left
-tried-so setup past hand fresh [] seats new found held left is nobody = record { count = 0; is = refl; next = refl; rest = tt; later = same_or_more held.faults; caused = λ (some : 1 ≤ 0). absurd (no-one some); calls = λ calls makes (some : 1 ≤ 0). absurd (no-one some) }
+tried-so setup past hand fresh [] seats new found held left is nobody = record { count = 0; is = refl; next = refl; rest = tt; later = le_refl held.faults; caused = λ (some : 1 ≤ 0). absurd (no-one some); calls = λ calls makes (some : 1 ≤ 0). absurd (no-one some) }
 tried-so setup past hand fresh (own ∷ owns) seats new found held left is nobody = cc
 tried-so setup past hand fresh [] seats new found held left is (passes seat not rest) = cc
 tried-so setup past hand fresh [] seats new found held left is (fails seat fallen it one rest) = cc

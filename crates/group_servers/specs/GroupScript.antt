@@ -36,7 +36,8 @@ in-hand past (Applied entry) = λ none. cc
 in-hand past (Ready entry) = λ none. cc
 
 -- where the count of faults stood nothing more is said
-pub calm-uses : {standbys : ℕ} (next : Line) (told : List Told) (held left : DiskSeen) → left.faults ≡ held.faults → UsesLine standbys next (λ number. 0) told held left
+pub calm-uses : {standbys : ℕ} (next : Line) (told : List Told) (held left : DiskSeen) → left.faults ≡ held.faults
+    → UsesLine standbys next (λ number. 0) told held left
 calm-uses next told held left same = record {
   caused = λ never number. refl;
   later = stood-later held left same;
@@ -47,7 +48,8 @@ pub group_follows : (n : ℕ) → IsScript (group_kit n) group_script
 group_follows n = record {
   shares = λ plain shelf device next state outcome seen shared stands armed happens. shares plain shelf device next state outcome happens;
   settles = λ plain device state whole stands ends. record { whole = whole; ends = ends; is = refl };
-  halts = λ plain shelf device state whole stands ends. absurd (settle-never plain (group plain device) (group_ends Stopped plain device) (λ now last stops. stops) state whole ends);
+  halts = λ plain shelf device state whole stands ends.
+      absurd (settle-never plain (group plain device) (group_ends Stopped plain device) (λ now last stops. stops) state whole ends);
   in_hand = λ plain device state stands. in-hand (length state.world.core.answered) state.world.core.hand;
   told = λ setup next state seen shows stands tells. tells;
   settled = λ setup happened state outcome held left uses. record { caused = uses.caused; later = uses.later; felled = λ less. (refl, uses.felled less) };
