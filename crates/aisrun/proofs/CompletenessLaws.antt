@@ -21,10 +21,10 @@ use Rattle.played_runs.specs.Counts.{HasRisen, RisesBefore}
 use Rattle.played_runs.specs.Edges.{Edge, before, after, fault_count}
 use Rattle.played_runs.specs.Writing.{Ended, Whole, SinkFailed, SinkLacked, Lacked}
 use Rattle.aisrun.specs.Edges.{Around}
-use Rattle.aisrun.specs.declared.command.Command.{Command}
-use Rattle.aisrun.specs.declared.command.Command.TheVariants.{Run, Check, Expr, Load, Scan}
-use Rattle.aisrun.specs.declared.command.RecordQuery.{RecordQuery}
-use Rattle.aisrun.specs.Commands.{command_of, text_of}
+use Rattle.commands.specs.declared.command.Command.{Command}
+use Rattle.commands.specs.declared.command.Command.TheVariants.{Run, Check, Expr, Load, Scan}
+use Rattle.commands.specs.declared.command.RecordQuery.{RecordQuery}
+use Rattle.commands.specs.Commands.{command_of, text_of}
 use Rattle.aisrun.specs.Completing.{CanCheck, CanParse, CanRun, HoldsRecords, IsDoneOrMemory}
 use Rattle.aisrun.specs.Endings.{input_limit, ReadsWhole, InputTooLong, Ends, Fails, HasLines, InLoad, InScript, Reads, ReadsSource, NoScript, NoExpression}
 use Rattle.aisrun.specs.RunSteps.{WordsLack}

@@ -19,10 +19,10 @@ use Rattle.played_runs.proofs.CountSteps.{on-same, other-stood, stood-on, untouc
 use Rattle.played_runs.proofs.WritingSteps.{written-as}
 use Rattle.played_runs.proofs.EndingSteps.{text-ends}
 use Rattle.aisrun.specs.Edges.{Around}
-use Rattle.aisrun.specs.Runs.{Stage, PlayEnds}
-use Rattle.aisrun.specs.declared.command.Command.{Command}
-use Rattle.aisrun.specs.declared.command.Command.TheVariants.{Run, Check, Expr, Gen, Load, Scan}
-use Rattle.aisrun.specs.Commands.{command_of, text_of}
+use Rattle.cluster_core.specs.Runs.{Stage, PlayEnds}
+use Rattle.commands.specs.declared.command.Command.{Command}
+use Rattle.commands.specs.declared.command.Command.TheVariants.{Run, Check, Expr, Gen, Load, Scan}
+use Rattle.commands.specs.Commands.{command_of, text_of}
 use Rattle.aisrun.specs.Checking.{CheckEnds, Judged, IsScript, IsNoScript, ExprEnds, IsExpression, IsNoExpression}
 use Rattle.aisrun.specs.Endings.{input_limit, ReadsWhole, SourceFailed, InputTooLong, HasScript, InScript, LacksBy, Unbegun, Unjudged, RunLacks, Unread as Unknown, Unplayed, Ends, Checked, Parsed, Ran, NoScript, NoExpression}
 use Rattle.aisrun.specs.Inputs.{UnreadEnds, UnreadLacks}

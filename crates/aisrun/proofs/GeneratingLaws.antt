@@ -8,11 +8,11 @@ use Rattle.played_runs.specs.Writing.{Counting, Ended, IsNever, IsText, Standing
 use Rattle.played_runs.proofs.CountSteps.{untouched-on, untouched-stood}
 use Rattle.played_runs.proofs.EndingSteps.{text-written}
 use Rattle.aisrun.specs.Edges.{Around}
-use Rattle.aisrun.specs.declared.command.Command.{Command}
-use Rattle.aisrun.specs.declared.command.Command.TheVariants.{Run, Check, Expr, Gen, Scan}
+use Rattle.commands.specs.declared.command.Command.{Command}
+use Rattle.commands.specs.declared.command.Command.TheVariants.{Run, Check, Expr, Gen, Scan}
 use Rattle.played_runs.specs.declared.ending.Status8.{Status8}
 use Rattle.played_runs.specs.declared.ending.Status8.TheVariants.{Done, ScriptRefused, Usage, Memory, ReadFault, WriteFault, DiskFault, RootNotEmpty, TooLong, Inseparable}
-use Rattle.aisrun.specs.Commands.{command_of}
+use Rattle.commands.specs.Commands.{command_of}
 use Rattle.aisrun.specs.Completing.{CanGenerate, IsDoneOrMemory}
 use Rattle.aisrun.specs.Endings.{Ends, Generated, NoExpression, NoScript, Reads, ReadsSource}
 use Rattle.aisrun.specs.RunSteps.{WordsLack}

@@ -1,9 +1,5 @@
 mod ScriptSteps
-mod FallLaws
 mod EndingSteps
-mod LoadLines
-mod TurnSteps
-mod FigureLaws
 mod LoadEndings
 mod ScanEndings
 mod ScanLaws
@@ -11,5 +7,3 @@ mod StatusLaws
 mod CompletenessLaws
 mod GeneratingLaws
 mod LoadCompleteness
-mod WordLaws
-mod DashLaws

@@ -8,11 +8,11 @@ use Rattle.played_runs.specs.Counts.{HasRisen, RisesBefore}
 use Rattle.played_runs.specs.Edges.{before, fault_count}
 use Rattle.played_runs.specs.Writing.{Ended}
 use Rattle.aisrun.specs.Edges.{Around}
-use Rattle.aisrun.specs.declared.command.Command.{Command}
-use Rattle.aisrun.specs.declared.command.Command.TheVariants.{Run, Check, Expr, Load, Scan}
+use Rattle.commands.specs.declared.command.Command.{Command}
+use Rattle.commands.specs.declared.command.Command.TheVariants.{Run, Check, Expr, Load, Scan}
 use Rattle.played_runs.specs.declared.ending.Status8.{Status8}
 use Rattle.played_runs.specs.declared.ending.Status8.TheVariants.{Done, ScriptRefused, Usage, Memory, ReadFault, WriteFault, DiskFault, RootNotEmpty, TooLong, Inseparable}
-use Rattle.aisrun.specs.Commands.{command_of}
+use Rattle.commands.specs.Commands.{command_of}
 use Rattle.aisrun.specs.Completing.{CanLoad, IsDoneOrMemory}
 use Rattle.aisrun.specs.Endings.{Ends, NoExpression, NoScript, Reads, ReadsSource}
 use Rattle.aisrun.specs.RunSteps.{WordsLack}

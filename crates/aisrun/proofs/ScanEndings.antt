@@ -3,12 +3,12 @@ use Rattle.std.proofs.Common.{◌≡◌, ℕ, inl, inr, List, Option, Some, None
 use Rattle.format_expr.specs.declared.piece.Piece.{Piece}
 use Rattle.played_runs.specs.Edges.{LeavesAll}
 use Rattle.aisrun.specs.Edges.{Around}
-use Rattle.aisrun.specs.declared.command.Command.{Command}
-use Rattle.aisrun.specs.declared.command.Command.TheVariants.{Scan}
-use Rattle.aisrun.specs.declared.command.RecordQuery.{RecordQuery}
+use Rattle.commands.specs.declared.command.Command.{Command}
+use Rattle.commands.specs.declared.command.Command.TheVariants.{Scan}
+use Rattle.commands.specs.declared.command.RecordQuery.{RecordQuery}
 use Rattle.played_runs.specs.declared.ending.Status8.{Status8}
 use Rattle.played_runs.specs.declared.ending.Status8.TheVariants.{Done, ScriptRefused, Usage, Memory, ReadFault, WriteFault, DiskFault, RootNotEmpty, TooLong, Inseparable}
-use Rattle.aisrun.specs.Commands.{command_of, text_of, wanted_of}
+use Rattle.commands.specs.Commands.{command_of, text_of, wanted_of}
 use Rattle.aisrun.specs.Endings.{Ends, LacksBy, NoExpression, RecordsLack, Scanned, Unheld, Unjudged, Untold}
 use Rattle.aisrun.specs.Scanning.{CanScan, IsParted}
 use Rattle.aisrun.specs.ScanSteps.{ScanEnds, ScanLacks, SourceLacks}

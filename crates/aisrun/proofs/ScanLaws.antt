@@ -14,7 +14,7 @@ use Rattle.played_runs.specs.Writing.{Counting, IsNone, IsText, Reaching, Writte
 use Rattle.played_runs.proofs.CountSteps.{on-same, untouched-stood}
 use Rattle.played_runs.proofs.EndingSteps.{text-ends}
 use Rattle.played_runs.proofs.WritingSteps.{written-behind}
-use Rattle.aisrun.specs.declared.command.RecordQuery.{RecordQuery}
+use Rattle.commands.specs.declared.command.RecordQuery.{RecordQuery}
 use Rattle.played_runs.specs.declared.ending.Status8.{Status8}
 use Rattle.played_runs.specs.declared.ending.Status8.TheVariants.{Done, ScriptRefused, Usage, Memory, ReadFault, WriteFault, DiskFault, RootNotEmpty, TooLong, Inseparable}
 use Rattle.aisrun.specs.Endings.{ReadsWhole}

@@ -11,7 +11,7 @@ use Rattle.script_language.specs.Scripts.SpellAll.{done, skipped, spelled}
 use Rattle.plain_service.specs.Setups.{Setup}
 use Rattle.cluster_core.specs.Playing.{IsEventLine}
 use Rattle.played_runs.specs.Steps.{time_behind}
-use Rattle.aisrun.specs.Runs.{CanPlay, IsPlayable, CanFollow}
+use Rattle.cluster_core.specs.Runs.{CanPlay, IsPlayable, CanFollow}
 
 -- a time that is not below the one in force
 not-below : (now later : ℤ) → (below : Bool) → int_lt later now ≡ below → (if below then Some why.Time else None) ≡ None → now ≤ℤ later

@@ -6,10 +6,10 @@ use Rattle.format_expr.specs.declared.fault.ExprFault.{ExprFault}
 use Rattle.format_expr.specs.Faults.{IsFault}
 use Rattle.script_lines.specs.declared.line.Line.{Line}
 use Rattle.script_language.specs.Scripts.{IsScriptOf}
-use Rattle.aisrun.specs.declared.command.Command.TheVariants.{Expr, Gen, Load}
+use Rattle.commands.specs.declared.command.Command.TheVariants.{Expr, Gen, Load}
 use Rattle.played_runs.specs.declared.ending.Status8.{Status8}
 use Rattle.played_runs.specs.declared.ending.Status8.TheVariants.{Done, Memory}
-use Rattle.aisrun.specs.Commands.{command_of, text_of}
+use Rattle.commands.specs.Commands.{command_of, text_of}
 use Rattle.aisrun.specs.Scanning.{CanScan}
 
 -- a source has the script of these lines to give, which is not longer than 16 MiB

@@ -3,7 +3,7 @@ use Rattle.std.specs.Prelude.{ℕ, List, Option}
 use Rattle.disk_model.specs.Disk.{Files}
 use Rattle.cluster_core.specs.declared.world.World.{World}
 use Rattle.played_runs.specs.Edges.{Edge, stage}
-use Rattle.aisrun.specs.Runs.{Stage}
+use Rattle.cluster_core.specs.Runs.{Stage}
 
 -- a whole run: its words, its source and its stage
 pub record Around (S K D : Type 0) : Type 0 where

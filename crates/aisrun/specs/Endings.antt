@@ -1,7 +1,6 @@
 -- Words of public clauses: how a run ends, which is its status with what was read, what is printed, and what it leaves.
 use Rattle.std.specs.Prelude.{◌≡◌, ℕ, ◌+◌, ◌≤◌, List, [], ◌++◌, length, codes}
 use Rattle.std.specs.Prelude.{Option, Some, None, ◌⊎◌}
-use Rattle.std.specs.FinMap as files
 use Rattle.std.specs.Io.KnownBytes.{Appends}
 use Rattle.std.specs.Fmt.{decimal}
 use Rattle.ais_values.specs.declared.kind.StreamKind.{StreamKind}
@@ -20,15 +19,15 @@ use Rattle.load_script.specs.Texts.{load_text}
 use Rattle.played_runs.specs.declared.ending.Status8.{Status8}
 use Rattle.played_runs.specs.declared.ending.Status8.TheVariants.{Done, ScriptRefused, Usage, Memory, ReadFault, WriteFault, DiskFault}
 use Rattle.played_runs.specs.declared.ending.Status8.TheVariants.{RootNotEmpty, TooLong, Inseparable}
-use Rattle.played_runs.specs.Counts.{HasGoneOn, HasRisen, HasStood, RisesBefore}
-use Rattle.played_runs.specs.Edges.{Edge, before, after, fault_count, first_count, IsUntouched, LeavesAll}
-use Rattle.played_runs.specs.Ends.{RootHolds, fault_line}
+use Rattle.played_runs.specs.Counts.{HasGoneOn, HasStood, RisesBefore}
+use Rattle.played_runs.specs.Edges.{Edge, before, after, fault_count, IsUntouched, LeavesAll}
+use Rattle.played_runs.specs.Ends.{RootHolds}
 use Rattle.aisrun.specs.Edges.{Around}
-use Rattle.aisrun.specs.Runs.{Stage, PlaysFront, StandsAt, DiskFails, PlayEnds, PlayLacks, PlayedTo}
-use Rattle.aisrun.specs.declared.command.Command.{Command}
-use Rattle.aisrun.specs.declared.command.Command.TheVariants.{Run, Check, Expr, Gen, Load, Scan}
-use Rattle.aisrun.specs.Commands.{command_of, text_of as word_text}
-use Rattle.aisrun.specs.Loading.{TellsLoad}
+use Rattle.cluster_core.specs.Runs.{DiskFails, PlayEnds, PlayLacks, PlayedTo}
+use Rattle.commands.specs.declared.command.Command.{Command}
+use Rattle.commands.specs.declared.command.Command.TheVariants.{Run, Check, Expr, Gen, Load, Scan}
+use Rattle.commands.specs.Commands.{command_of, text_of as word_text}
+use Rattle.load_runs.specs.Loading.{LoadFails, TellsLoad}
 use Rattle.aisrun.specs.Scanning.{CanScan, CannotScan, ScansAll, ScansFront, TakesText}
 use Rattle.aisrun.specs.Usage.{usage_line}
 
@@ -99,16 +98,6 @@ pub record HasLoad {S K D : Type 0} (run : Around S K D) (lines : List Line) : T
 -- one of both was played
 abbrev pub HasLines : {S K D : Type 0} → Around S K D → List Line → Type 0
 HasLines run lines = HasScript run lines ⊎ HasLoad run lines
-
--- the disk failed in a large run, of whose lines nothing is written: as they were played; or behind them, as the files were counted, where
--- all stands where they led, but for the disk's count of faults
-pub data LoadFails {K D : Type 0} (script : List Line) (scene : Stage K D) (text : List ℕ) : Type 0 where
-  InPlay : (unwritten : List ℕ) → DiskFails script scene unwritten → text ≡ fault_line → LoadFails script scene text
-  AtCount :
-      (done : List Line) (unwritten : List ℕ) (front : PlaysFront (before scene.disk) (first_count scene) script done [] unwritten)
-      → StandsAt front.setup front.goes.state front.goes.files front.goes.faults (before scene.disk)
-      (record { files = after scene.disk; armed = scene.armed; faults = front.goes.faults }) scene.world_after
-      → HasRisen (front.goes.faults, scene.disk.faults scene.disk.new) → text ≡ fault_line → LoadFails script scene text
 
 -- what each command comes to where all is well
 pub data Succeeds {S K D : Type 0} (run : Around S K D) (text : List ℕ) : Type 0 where

@@ -1,11 +1,8 @@
 pub mod Checking
-pub mod Commands
 pub mod Completing
 pub mod Edges
 pub mod Endings
 pub mod Inputs
-pub mod Loading
-pub mod LoadSteps
 pub mod RunSteps
 pub mod ScanSteps
 pub mod Scanning
@@ -18,5 +15,3 @@ pub use Rattle.script_lines.specs.Refusals
 pub use Rattle.script_language.specs.Scripts
 pub use Rattle.format_expr.specs.Faults
 pub use Rattle.format_expr.specs.Language
-pub mod Runs
-pub mod Falling

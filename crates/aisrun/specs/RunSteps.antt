@@ -4,8 +4,8 @@ use Rattle.played_runs.specs.declared.ending.Status8.TheVariants.{ReadFault, Too
 use Rattle.played_runs.specs.Edges.{Edge, LeavesAll}
 use Rattle.played_runs.specs.Writing.{Reaching}
 use Rattle.aisrun.specs.Edges.{Around}
-use Rattle.aisrun.specs.Runs.{Stage}
-use Rattle.aisrun.specs.Commands.{command_of}
+use Rattle.cluster_core.specs.Runs.{Stage}
+use Rattle.commands.specs.Commands.{command_of}
 use Rattle.aisrun.specs.Endings.{LacksBy, ReadsWhole, SourceFailed, InputTooLong}
 use Rattle.aisrun.specs.Scripting.{BytesEnd, BytesLack}
 

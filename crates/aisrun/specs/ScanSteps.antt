@@ -6,7 +6,7 @@ use Rattle.scan_lines.specs.Telling.{IsTold, TellsAll, TellsFront}
 use Rattle.played_runs.specs.Counts.{HasStood}
 use Rattle.played_runs.specs.Edges.{Edge, before, after, fault_count, IsUntouched}
 use Rattle.played_runs.specs.Writing.{Ended, IsNone, Reaching, Written, unasked}
-use Rattle.aisrun.specs.declared.command.RecordQuery.{RecordQuery}
+use Rattle.commands.specs.declared.command.RecordQuery.{RecordQuery}
 use Rattle.played_runs.specs.declared.ending.Status8.{Status8}
 use Rattle.played_runs.specs.declared.ending.Status8.TheVariants.{Done, ScriptRefused, ReadFault, TooLong, Inseparable}
 use Rattle.aisrun.specs.declared.scanning.Expression.{Expression}

@@ -8,9 +8,9 @@ use Rattle.format_expr.specs.Language.{ArePiecesOf}
 use Rattle.format_expr.specs.Faults.{IsFault}
 use Rattle.record_scan.specs.Separable.{IsSeparable, IsFirstInWay}
 use Rattle.scan_lines.specs.Telling.{TellsAll, TellsFront}
-use Rattle.aisrun.specs.declared.command.RecordQuery.{RecordQuery}
-use Rattle.aisrun.specs.declared.command.Command.TheVariants.{Expr, Scan}
-use Rattle.aisrun.specs.Commands.{command_of, text_of, wanted_of}
+use Rattle.commands.specs.declared.command.RecordQuery.{RecordQuery}
+use Rattle.commands.specs.declared.command.Command.TheVariants.{Expr, Scan}
+use Rattle.commands.specs.Commands.{command_of, text_of, wanted_of}
 
 -- the text is an expression of these pieces
 pub record IsExprOf (kind : StreamKind) (pieces : List Piece) (text : List ℕ) : Type 0 where

@@ -5,15 +5,8 @@ use Rattle.script_language.specs.Scripts.{IsScriptOf}
 use Rattle.played_runs.specs.declared.ending.Status8.TheVariants.{ScriptRefused}
 use Rattle.played_runs.specs.Edges.{LeavesAll}
 use Rattle.played_runs.specs.Writing.{Reaching}
-use Rattle.aisrun.specs.Runs.{Stage, PlayEnds, PlayLacks}
-use Rattle.aisrun.specs.declared.reading.Script.{Script}
-use Rattle.aisrun.specs.declared.reading.Script.TheVariants as script
+use Rattle.cluster_core.specs.Runs.{Stage, PlayEnds, PlayLacks}
 use Rattle.aisrun.specs.Endings.{ScriptFails}
-
--- the lines of a script that can be played, or the end of a run
-abbrev pub ScriptRead : List ℕ → Script → Type 0
-ScriptRead bytes (script.Lines lines) = IsScriptOf lines bytes
-ScriptRead bytes (script.Refused end) = (end.status ≡ ScriptRefused) × ScriptFails bytes end.text.items
 
 -- how the bytes of an input end on a stage
 abbrev pub BytesEnd : {K D : Type 0} → List ℕ → Stage K D → Reaching

@@ -4,21 +4,15 @@
 #![tactic(auto)]
 
 mod check;
-mod command;
 mod ending;
 mod expr;
-mod figures;
 mod generating;
 mod input;
-mod loading;
-mod playing;
-mod reading;
 mod run;
 mod scanning;
 
 use callback_dispatch::OpenGate;
 use cluster_core::World;
-pub use command::{Command, RecordQuery, command_of};
 use disk_model::DirDisk;
 use io_edge::{StdSink, StdSource};
 pub use played_runs::Status8;

@@ -1,16 +1,18 @@
 //! The top call: the words, a source, a sink, a disk and a world, and the status that the run ends with.
-ghost use Rattle.std.specs.Prelude.{◌≡◌, ◌≤◌, None, Some, length};
+ghost use Rattle.std.specs.Prelude.{◌≡◌, ◌≤◌, ◌++◌, None, Some, codes, length};
+ghost use Rattle.std.specs.Fmt.{decimal};
+ghost use Rattle.script_lines.specs.Refusals.{why_word};
 ghost use Rattle.played_runs.specs.Counts.{HasRisen, NoneRises, RisesBy};
 ghost use Rattle.played_runs.specs.Edges.{disk_edge, edge, fault_count, stage};
 ghost use Rattle.played_runs.specs.Promises.{CallsBack, CommitsInTime, KeepsFiles, KeepsOneHistory, KeepsRecords};
 ghost use Rattle.played_runs.specs.Promises.{PrintsPosts, ReadsRightly, RepliesRightly, SettlesAll, StandsOnce};
 ghost use Rattle.played_runs.specs.Refusing.{DeclinesRightly};
 ghost use Rattle.played_runs.specs.Telling.{TellsOnce};
-ghost use Rattle.played_runs.specs.Writing.{Ended, unasked};
+ghost use Rattle.played_runs.specs.Writing.{Ended, IsNone, IsText, Written, unasked};
 ghost use Rattle.aisrun.specs.Edges.{around};
-ghost use Rattle.aisrun.specs.Falling.{FallsByCause, FaultsFell};
-ghost use Rattle.aisrun.specs.Runs.{KeepsAtFault, OfAllLines, Throughout, TellsAtWant};
-ghost use Rattle.aisrun.specs.Commands.{command_of, word_bytes};
+ghost use Rattle.world_runs.specs.Falling.{FallsByCause, FaultsFell};
+ghost use Rattle.cluster_core.specs.Runs.{KeepsAtFault, OfAllLines, Throughout, TellsAtWant};
+ghost use Rattle.commands.specs.Commands.{command_of, word_bytes};
 ghost use Rattle.aisrun.specs.Completing.{CanCheck, CanGenerate, CanLoad, CanParse, CanRun, HoldsRecords, IsDoneOrMemory};
 ghost use Rattle.played_runs.specs.declared.ending.Status8.{Status8};
 ghost use Rattle.aisrun.specs.Endings.{Ends, EndsBy};
@@ -19,23 +21,35 @@ ghost use Rattle.aisrun.specs.RunSteps.{InputEnds, InputLacks, WordsLack};
 ghost use Rattle.cluster_core.specs.Worlds.{empty_world, view_of};
 
 use crate::check::run_check;
-use crate::command::{Command, command_of, text_of, wanted_of};
-use crate::ending::usage;
+use crate::ending::{bad_line, usage};
 use crate::expr::check_text;
 use crate::generating::generate;
 use crate::input::{INPUT_LIMIT, write_unread};
-use crate::loading::load;
-use crate::playing::play;
-use crate::reading::{Script, read_script};
 use crate::scanning::scan;
 use callback_dispatch::Gate;
 use cluster_core::World;
+use commands::{Command, command_of, text_of, wanted_of};
 use disk_model::SharedDisk;
 use io_edge::{Sink, Source, read_all};
+use load_runs::load;
 use played_runs::{Status8, write_end, write_text};
+use script::{ScriptAnswer, ScriptWhy, parse_script};
 use std::alloc::Global;
 use std::sync::Wait;
 use std::thread::Threads;
+use world_runs::{law_of_runs, play_script};
+
+// Writes which line of the input is bad.
+fn write_bad<K: Sink>(alloc: Global, out: &mut K, line: u32, why: ScriptWhy) -> Status8
+    ensures { Written (IsText Status8.ScriptRefused (codes "script line "
+        ++ (decimal line ++ (codes ": " ++ (why_word why ++ codes "\n"))))) IsNone
+        (edge K.written K.faults out.old out.new) result }
+{
+    match bad_line(alloc, line, why) {
+        Ok(end) => write_text(out, end.status, end.text.as_slice()),
+        Err(_) => Status8::Memory,
+    }
+}
 
 // Plays the script that these bytes are.
 fn run_bytes<R: Threads + Wait + Sync, K: Sink, D: SharedDisk, G: Gate>(
@@ -55,10 +69,10 @@ fn run_bytes<R: Threads + Wait + Sync, K: Sink, D: SharedDisk, G: Gate>(
         in Ended unasked (fault_count scene.disk) (BytesEnd bytes.now scene)
         (BytesLack bytes.now scene) scene.sink result }
 {
-    match read_script(alloc, bytes) {
-        Ok(Script::Lines(lines)) => play(rt, alloc, lines.as_slice(), out, disk, gate, world),
-        Ok(Script::Refused(end)) => write_text(out, end.status, end.text.as_slice()),
-        Err(_) => Status8::Memory,
+    match parse_script(alloc, bytes) {
+        Ok(lines) => play_script(rt, alloc, lines, out, disk, gate, world),
+        Err(ScriptAnswer::Memory) => Status8::Memory,
+        Err(ScriptAnswer::Bad { line, why }) => write_bad(alloc, out, line, why),
     }
 }
 
@@ -249,5 +263,6 @@ pub fn run<R: Threads + Wait + Sync, S: Source, K: Sink, D: SharedDisk, G: Gate>
         → ¬ HasRisen (S.faults source.old, S.faults source.new)
         → ¬ HasRisen (K.faults out.old, K.faults out.new) → IsDoneOrMemory result }
 {
+    law_of_runs();
     run_words(rt, alloc, words, source, out, disk, gate, world)
 }

@@ -8,9 +8,9 @@ ghost use Rattle.played_runs.specs.Writing.{Ended, IsNone, IsText, Written, unas
 ghost use Rattle.aisrun.specs.Scanning.{IsExprOf};
 ghost use Rattle.aisrun.specs.ScanSteps.{ExpressionRead, RecordEnds, RecordGives, RecordsEnd, ScannedBy, SourceEnds, SourceLacks};
 
-use crate::command::RecordQuery;
 use crate::ending::{bad_text, inseparable};
 use crate::input::{INPUT_LIMIT, write_unread};
+use commands::RecordQuery;
 use format_expr::{Expr, check_expr, parse_expr};
 use io_edge::{Sink, Source, read_all, write_all};
 use played_runs::{End, Status8, unwritten, write_text};

@@ -6,3 +6,4 @@ pub mod Beginning
 pub mod Starting
 pub mod Game
 pub mod GameLaws
+pub mod Runs

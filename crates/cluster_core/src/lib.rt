@@ -4,6 +4,7 @@
 mod beginning;
 mod event;
 mod parts;
+mod playable;
 mod world;
 
 pub use world::World;

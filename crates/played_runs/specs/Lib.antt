@@ -14,3 +14,4 @@ pub mod Ends
 pub mod AfterFault
 pub mod Steps
 pub mod Passing
+pub mod Handed

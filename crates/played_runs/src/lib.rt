@@ -4,8 +4,12 @@
 
 mod ending;
 mod passing;
+mod playable;
+mod playing;
 mod writing;
 
 pub use ending::{End, Status8, end_with, root_holds};
-pub use passing::Halt;
+pub use passing::{Halt, begin_by, pass_lines};
+pub use playable::Playable;
+pub use playing::{first_name, play, write_held};
 pub use writing::{unwritten, write_broken, write_end, write_lines, write_text};

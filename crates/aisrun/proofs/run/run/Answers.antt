@@ -1,13 +1,5 @@
 use Rattle.cluster_core.specs.Worlds.{view_of}
-use Rattle.cluster_core.specs.Game.{world_game}
-use Rattle.cluster_core.specs.GameLaws.{world_plays}
-use Rattle.played_runs.proofs.FaultLaws.{keeps-at-fault}
-use Rattle.played_runs.proofs.PromiseLaws.{keeps-one-history, replies-rightly, reads-rightly, calls-back, prints-posts, keeps-files, keeps-records, stands-once, settles-all}
-use Rattle.played_runs.proofs.RefusalLaws.{declines-rightly}
-use Rattle.played_runs.proofs.TellingLaws.{tells-once, tells-at-want}
-use Rattle.played_runs.proofs.TimeLaws.{commits-in-time}
 use Rattle.aisrun.proofs.StatusLaws.{ends-by, rises-by}
-use Rattle.aisrun.proofs.FallLaws.{falls-by-cause, faults-fell}
 use Rattle.aisrun.proofs.CompletenessLaws.{completes, checks, exprs, scans}
 use Rattle.aisrun.proofs.GeneratingLaws.{generates}
 use Rattle.aisrun.proofs.LoadCompleteness.{loads}
@@ -20,54 +12,54 @@ pub returns-clause-faults : goal.returns-clause-faults
 returns-clause-faults g c = rises-by _ c.run_words.result c.run_words.ensures
 
 pub returns-clause-one_history : goal.returns-clause-one_history
-returns-clause-one_history g c = keeps-one-history world_game world_plays _
+returns-clause-one_history g c = c.law_of_runs.ensures.one_history _
 
 pub returns-clause-replies : goal.returns-clause-replies
-returns-clause-replies g c = replies-rightly world_game world_plays _
+returns-clause-replies g c = c.law_of_runs.ensures.replies _
 
 pub returns-clause-declines : goal.returns-clause-declines
-returns-clause-declines g c = declines-rightly world_game world_plays _
+returns-clause-declines g c = c.law_of_runs.ensures.declines _
 
 pub returns-clause-in_time : goal.returns-clause-in_time
-returns-clause-in_time g c = commits-in-time world_game world_plays _
+returns-clause-in_time g c = c.law_of_runs.ensures.in_time _
 
 pub returns-clause-falls : goal.returns-clause-falls
-returns-clause-falls g c = falls-by-cause _
+returns-clause-falls g c = c.law_of_runs.ensures.falls _
 
 pub returns-clause-fells : goal.returns-clause-fells
-returns-clause-fells g c = faults-fell _
+returns-clause-fells g c = c.law_of_runs.ensures.fells _
 
 pub returns-clause-readers : goal.returns-clause-readers
-returns-clause-readers g c = reads-rightly world_game world_plays _
+returns-clause-readers g c = c.law_of_runs.ensures.readers _
 
 pub returns-clause-callbacks : goal.returns-clause-callbacks
-returns-clause-callbacks g c = calls-back world_game world_plays _
+returns-clause-callbacks g c = c.law_of_runs.ensures.callbacks _
 
 pub returns-clause-tells_once : goal.returns-clause-tells_once
-returns-clause-tells_once g c = tells-once world_game world_plays _
+returns-clause-tells_once g c = c.law_of_runs.ensures.tells_once _
 
 pub returns-clause-posts : goal.returns-clause-posts
-returns-clause-posts g c = prints-posts world_game world_plays _
+returns-clause-posts g c = c.law_of_runs.ensures.posts _
 
 pub returns-clause-files : goal.returns-clause-files
-returns-clause-files g c = keeps-files world_game world_plays _
+returns-clause-files g c = c.law_of_runs.ensures.files _
 
 pub returns-clause-stays : goal.returns-clause-stays
-returns-clause-stays g c = keeps-records world_game world_plays _
+returns-clause-stays g c = c.law_of_runs.ensures.stays _
 
 pub returns-clause-stands_once : goal.returns-clause-stands_once
-returns-clause-stands_once g c = stands-once world_game world_plays _
+returns-clause-stands_once g c = c.law_of_runs.ensures.stands_once _
 
 pub returns-clause-settles : goal.returns-clause-settles
-returns-clause-settles g c = settles-all world_game world_plays _
+returns-clause-settles g c = c.law_of_runs.ensures.settles _
 
 pub returns-clause-fault_keeps : goal.returns-clause-fault_keeps
 returns-clause-fault_keeps g c =
-    keeps-at-fault world_game world_plays (g.D.SharedDisk.seen c.args.disk.now).files (view_of (g.D.SharedDisk.seen c.run_words.new.disk)) c.run_words.new.world
+    c.law_of_runs.ensures.fault_keeps (g.D.SharedDisk.seen c.args.disk.now).files (view_of (g.D.SharedDisk.seen c.run_words.new.disk)) c.run_words.new.world
 
 pub returns-clause-want_tells : goal.returns-clause-want_tells
 returns-clause-want_tells g c =
-    tells-at-want world_game world_plays (g.D.SharedDisk.seen c.args.disk.now).files (view_of (g.D.SharedDisk.seen c.run_words.new.disk)) c.run_words.new.world
+    c.law_of_runs.ensures.want_tells (g.D.SharedDisk.seen c.args.disk.now).files (view_of (g.D.SharedDisk.seen c.run_words.new.disk)) c.run_words.new.world
 
 pub returns-clause-completes : goal.returns-clause-completes
 returns-clause-completes g c can none =

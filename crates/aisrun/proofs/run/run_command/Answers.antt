@@ -7,12 +7,12 @@ use Rattle.played_runs.proofs.CountSteps.{on-same}
 use Rattle.played_runs.proofs.EndingSteps.{end-written}
 use Rattle.played_runs.proofs.WritingSteps.{ended-alone, ended-as, ended-read}
 use Rattle.aisrun.specs.Edges.{around}
-use Rattle.aisrun.specs.declared.command.Command.{Command}
-use Rattle.aisrun.specs.declared.command.Command.TheVariants.{Run, Check, Expr, Gen, Load, Scan}
+use Rattle.commands.specs.declared.command.Command.{Command}
+use Rattle.commands.specs.declared.command.Command.TheVariants.{Run, Check, Expr, Gen, Load, Scan}
 use Rattle.aisrun.specs.Checking.{CheckEnds, ExprEnds}
-use Rattle.aisrun.specs.Commands.{command_of, text_of, wanted_of}
+use Rattle.commands.specs.Commands.{command_of, text_of, wanted_of}
 use Rattle.aisrun.specs.Endings.{Ends, LacksBy}
-use Rattle.aisrun.specs.LoadSteps.{LoadEnds, LoadWants}
+use Rattle.load_runs.specs.LoadSteps.{LoadEnds, LoadWants}
 use Rattle.aisrun.specs.RunSteps.{InputEnds, InputLacks, WordsLack}
 use Rattle.aisrun.specs.ScanSteps.{ScanEnds, ScanLacks}
 use Rattle.aisrun.proofs.EndingSteps.{check-run, expr-run, input-lack, input-run, ok-ends}

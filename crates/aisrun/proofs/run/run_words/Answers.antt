@@ -5,7 +5,7 @@ use Rattle.played_runs.specs.Writing.{Counting, Standing}
 use Rattle.played_runs.proofs.CountSteps.{on-same}
 use Rattle.played_runs.proofs.EndingSteps.{end-written, lacked}
 use Rattle.aisrun.specs.Edges.{around}
-use Rattle.aisrun.specs.Commands.{command_of}
+use Rattle.commands.specs.Commands.{command_of}
 use Rattle.aisrun.specs.Endings.{Ends}
 use Rattle.aisrun.specs.RunSteps.{WordsLack}
 use Rattle.aisrun.proofs.EndingSteps.{lacks-early, usage-run}

@@ -1,0 +1,2 @@
+pub mod DashLaws
+pub mod WordLaws

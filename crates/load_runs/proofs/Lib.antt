@@ -1,0 +1,4 @@
+mod FigureLaws
+mod LoadEndings
+mod LoadLines
+mod TurnSteps

@@ -1,0 +1,83 @@
+-- Words of public clauses: the one line that the command `load` prints, by where the lines of its script led and the files of the disk; and
+-- where the disk failed in it.
+use Rattle.std.specs.Prelude.{◌≡◌, ℕ, ◌-◌, Bool, true, false, List, [], ◌∷◌, length, count_by, sum_by, codes, Option, IfSome}
+use Rattle.std.specs.FinMap as map
+use Rattle.std.specs.Fmt.{decimal}
+use Rattle.disk_model.specs.Disk.{Files}
+use Rattle.script_grammar.specs.Writing.{joined}
+use Rattle.script_lines.specs.declared.line.Line.{Line}
+use Rattle.script_lines.specs.declared.line.Server.TheVariants.{A, B}
+use Rattle.cluster_facts.specs.Types.{Message, Request}
+use Rattle.cluster_facts.specs.Messages.{messages_in}
+use Rattle.cluster_facts.specs.Agents.{Agent, resent}
+use Rattle.cluster_facts.specs.History.{committed}
+use Rattle.cluster_facts.specs.World.{World}
+use Rattle.cluster_events.specs.declared.lines.ServerRole.{ServerRole}
+use Rattle.cluster_events.specs.Servers.{State}
+use Rattle.cluster_clients.specs.Files.{sizes_of}
+use Rattle.group_cluster.specs.Seats.{Peers, role_of}
+use Rattle.event_text.specs.Texts.{line_end, role_text}
+use Rattle.played_runs.specs.Counts.{HasRisen}
+use Rattle.played_runs.specs.Edges.{after, before, first_count}
+use Rattle.played_runs.specs.Ends.{fault_line}
+use Rattle.cluster_core.specs.Runs.{DiskFails, PlaysFront, Stage, StandsAt}
+
+-- how many of these messages are requests
+abbrev pub is_request : Message → Bool
+is_request (Request client number call) = true
+is_request _ = false
+
+abbrev pub requests_in : List Message → ℕ
+requests_in messages = count_by is_request messages
+
+-- how many requests the agents of these clients would send again: those of the calls whose reply they have not taken
+abbrev pub requests_again : (ℕ → Agent) → List ℕ → ℕ
+requests_again agents clients = sum_by (λ client. requests_in (resent client (agents client))) clients
+
+-- how many replies were taken: each request that stands in the net and is not sent again has its reply
+abbrev pub replies_taken : World → ℕ
+replies_taken world = requests_in (messages_in world.net) - requests_again world.agents world.clients
+
+-- the files of a disk with their lengths, as the line `files` shows them, and the sum of lengths
+abbrev pub all_files : Files → List (List ℕ × ℕ)
+all_files held = sizes_of held (map.keys held)
+
+abbrev pub bytes_in : List (List ℕ × ℕ) → ℕ
+bytes_in listed = sum_by (λ (file : List ℕ × ℕ). file.1) listed
+
+-- how long the history is, the replies taken, how long the net is, the number of files and the sum of their lengths, and the roles
+abbrev pub load_line : (entries replies net files bytes : ℕ) → (a b : ServerRole) → List ℕ
+load_line entries replies net files bytes a b =
+    joined (
+    codes "load entries=" ∷ decimal entries
+    ∷ codes " replies=" ∷ decimal replies
+    ∷ codes " net=" ∷ decimal net
+    ∷ codes " files=" ∷ decimal files
+    ∷ codes " bytes=" ∷ decimal bytes
+    ∷ codes " a=" ∷ role_text a
+    ∷ codes " b=" ∷ role_text b
+    ∷ line_end ∷ []
+    )
+
+-- the same of a state
+abbrev pub state_line : State Peers → (files bytes : ℕ) → List ℕ
+state_line state files bytes =
+    load_line (length (committed state.world.core)) (replies_taken state.world) (length state.world.net) files bytes (role_of A state.peers)
+    (role_of B state.peers)
+
+-- the line tells of a state and of the files of a disk; of any files where it does not tell them
+pub record TellsLoad (state : State Peers) (held : Option Files) (text : List ℕ) : Type 0 where
+  pub files : ℕ
+  pub bytes : ℕ
+  pub counted : IfSome held (λ told. (files ≡ length (all_files told)) × (bytes ≡ bytes_in (all_files told)))
+  pub printed : text ≡ state_line state files bytes
+
+-- the disk failed in a large run, of whose lines nothing is written: as they were played; or behind them, as the files were counted, where
+-- all stands where they led, but for the disk's count of faults
+pub data LoadFails {K D : Type 0} (script : List Line) (scene : Stage K D) (text : List ℕ) : Type 0 where
+  InPlay : (unwritten : List ℕ) → DiskFails script scene unwritten → text ≡ fault_line → LoadFails script scene text
+  AtCount :
+      (done : List Line) (unwritten : List ℕ) (front : PlaysFront (before scene.disk) (first_count scene) script done [] unwritten)
+      → StandsAt front.setup front.goes.state front.goes.files front.goes.faults (before scene.disk)
+      (record { files = after scene.disk; armed = scene.armed; faults = front.goes.faults }) scene.world_after
+      → HasRisen (front.goes.faults, scene.disk.faults scene.disk.new) → text ≡ fault_line → LoadFails script scene text
