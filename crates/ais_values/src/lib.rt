@@ -2,6 +2,7 @@
 #![tactic(auto)]
 
 mod codes;
+mod digits;
 mod duplicate;
 mod events;
 mod kind;
@@ -14,6 +15,7 @@ mod text;
 mod times;
 
 pub use codes::{CodeRow, code_of, name_of};
+pub use digits::hex_digit;
 pub use duplicate::{Duplicate, both};
 pub use events::is_event_type;
 pub use kind::{ClassId, StreamKind, Version, Which};

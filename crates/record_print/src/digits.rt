@@ -1,31 +1,19 @@
 //! The texts of numbers, names and times.
 ghost use Rattle.std.specs.Prelude.{◌≡◌, ◌+◌, ◌-◌, ◌*◌, ◌/◌, ◌%◌, ◌^◌, ◌<◌, ◌≤◌, List, ℕ, [], ◌∷◌, ◌++◌, length, slice_index_or, decimal, codes};
 ghost use Rattle.civil_time.specs.Digits.{two_digits, four_digits};
-ghost use Rattle.ais_values.specs.Texts.{hex_digit};
 ghost use Rattle.record_print.specs.Printing.{hex_digits, led_digits, hex_bytes, spaces, month_names, day_names, severity_names, clock_hour, civil_text, class_text};
 ghost use Rattle.record_print.specs.Sheets.{Adds};
 
 use crate::clock::Clock;
 use crate::sheet::Sheet;
-use ais_values::ClassId;
 use ais_values::tables::{LOG_SEVERITIES, MONTHS};
+use ais_values::{ClassId, hex_digit};
 use civil_time::digits_of;
 use format_expr::TimePart;
 use itoa::Buffer;
 
 /// The names of the days of a week, from Monday on.
 const DAYS: [&str; 7] = ["Mon", "Tue", "Wed", "Thu", "Fri", "Sat", "Sun"];
-
-fn hex_of(digit: u8) -> u8
-    requires { digit < 16 }
-    ensures { result ≡ hex_digit digit }
-{
-    if digit < 10 {
-        b'0' + digit
-    } else {
-        b'a' + (digit - 10)
-    }
-}
 
 /// A number's last digits in hexadecimal.
 fn hex_array<const N: usize>(number: u64) -> [u8; N]
@@ -35,7 +23,7 @@ fn hex_array<const N: usize>(number: u64) -> [u8; N]
     let mut digits = [b'0'; N];
     for place in 0..N {
         let shift = 4 * (N - 1 - place) as u32;
-        digits[place] = hex_of((number >> shift & 15) as u8);
+        digits[place] = hex_digit((number >> shift & 15) as u8);
     }
     digits
 }
@@ -151,7 +139,7 @@ impl Sheet {
             if self.is_full() {
                 return;
             }
-            self.put(&[hex_of(*byte / 16), hex_of(*byte % 16)]);
+            self.put(&[hex_digit(*byte / 16), hex_digit(*byte % 16)]);
         }
     }
 }

@@ -1,10 +1,7 @@
 -- How a line stands in a picture: its number and its text, as a viewer shows them where the pointer rests. Words of public clauses.
 use Rattle.std.specs.Prelude.{ℕ, ◌+◌, ◌-◌, ◌/◌, ◌%◌, ◌==◌, nat_lt, List, ◌∷◌, [], ◌++◌, if◌then◌else◌, codes, decimal}
 use Rattle.std.specs.List.{flat_map}
-
--- a hexadecimal digit
-abbrev pub hex_digit : ℕ → ℕ
-hex_digit value = if nat_lt value 10 then 48 + value else 97 + (value - 10)
+use Rattle.ais_values.specs.Texts.{hex_digit}
 
 -- a byte that is not printable, as `\xNN`
 abbrev pub hexed : ℕ → List ℕ

@@ -1,7 +1,8 @@
 //! Text as it stands in a picture.
-ghost use Rattle.std.specs.Prelude.{◌≡◌, ◌++◌, ◌<◌, OnOk};
-ghost use Rattle.run_chart.specs.Titles.{escaped, escape_of, hex_digit, title};
+ghost use Rattle.std.specs.Prelude.{◌≡◌, ◌++◌, OnOk};
+ghost use Rattle.run_chart.specs.Titles.{escaped, escape_of, title};
 
+use ais_values::hex_digit;
 use std::alloc::{AllocError, Global};
 
 /// Adds a line's number and its text as what a viewer shows where the pointer rests.
@@ -42,19 +43,7 @@ fn put_byte(out: &mut Vec<u8>, byte: u8) -> Result<(), AllocError>
         return out.extend_from_slice(b"&gt;");
     }
     if byte < 32 || 126 < byte {
-        return out.extend_from_slice(&[b'\\', b'x', digit(byte / 16), digit(byte % 16)]);
+        return out.extend_from_slice(&[b'\\', b'x', hex_digit(byte / 16), hex_digit(byte % 16)]);
     }
     out.extend_from_slice(&[byte])
-}
-
-// A hexadecimal digit.
-fn digit(value: u8) -> u8
-    requires { value < 16 }
-    ensures { result ≡ hex_digit value }
-{
-    if value < 10 {
-        b'0' + value
-    } else {
-        b'a' + (value - 10)
-    }
 }

@@ -1,14 +1,13 @@
 //! Writing of words, numbers and quoted texts.
-ghost use Rattle.std.specs.Prelude.{◌≡◌, ◌++◌, ◌∷◌, [], OnOk, ◌<◌};
+ghost use Rattle.std.specs.Prelude.{◌≡◌, ◌++◌, ◌∷◌, [], OnOk};
 ghost use Rattle.std.specs.Fmt.{decimal, signed_decimal};
 ghost use Rattle.std.specs.List.{flat_map};
-ghost use Rattle.ais_values.specs.Texts.{hex_digit};
 ghost use Rattle.script_grammar.specs.Values.{hex_pair, hex_word};
 ghost use Rattle.script_grammar.specs.Writing.{byte_text, quoted_text};
 ghost use Rattle.script_language.specs.Printing.{class_text};
 ghost use Rattle.script_printer.specs.Pieces.{piece_text};
 
-use ais_values::ClassId;
+use ais_values::{ClassId, hex_digit};
 use std::alloc::{AllocError, Global};
 
 /// A piece of a line.
@@ -48,23 +47,11 @@ pub fn put_signed(alloc: Global, out: &mut Vec<u8>, number: i64) -> Result<(), A
     put(out, text.as_bytes())
 }
 
-/// The lower-case hexadecimal digit of a number below 16.
-fn hex_digit_of(number: u8) -> u8
-    requires { number < 16 }
-    ensures { result ≡ hex_digit number }
-{
-    if number < 10 {
-        b'0' + number
-    } else {
-        b'a' + (number - 10)
-    }
-}
-
 /// The two hexadecimal digits of a byte.
 fn hex_pair_of(byte: u8) -> [u8; 2]
     ensures { result ≡ hex_pair byte }
 {
-    [hex_digit_of(byte / 16), hex_digit_of(byte % 16)]
+    [hex_digit(byte / 16), hex_digit(byte % 16)]
 }
 
 /// Adds `0x` and the hexadecimal digits of a number's two bytes.
@@ -89,12 +76,7 @@ fn put_byte(out: &mut Vec<u8>, byte: u8) -> Result<(), AllocError>
     } else {
         put(
             out,
-            &[
-                b'\\',
-                b'x',
-                hex_digit_of(byte / 16),
-                hex_digit_of(byte % 16),
-            ],
+            &[b'\\', b'x', hex_digit(byte / 16), hex_digit(byte % 16)],
         )
     }
 }

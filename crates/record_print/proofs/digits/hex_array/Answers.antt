@@ -7,8 +7,8 @@ pub loop-place-preserved : goal.loop-place-preserved
 loop-place-preserved g c =
     let before = c.loop-place.invariant in
     record {
-      size = length-set c.loop-place.digits c.loop-place.place c.hex_of.result ∙ before.size;
-      digits = hex_more g.row.N c.args.number c.loop-place.place c.hex_of.result c.loop-place.digits (omega arith) before.size c.hex_of.ensures before.digits;
+      size = length-set c.loop-place.digits c.loop-place.place c.hex_digit.result ∙ before.size;
+      digits = hex_more g.row.N c.args.number c.loop-place.place c.hex_digit.result c.loop-place.digits (omega arith) before.size c.hex_digit.ensures before.digits;
     }
 
 pub returns : goal.returns

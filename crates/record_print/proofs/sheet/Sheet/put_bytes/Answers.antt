@@ -18,6 +18,6 @@ returns-then-is_full c =
 pub loop-byte-preserved : goal.loop-byte-preserved
 loop-byte-preserved c =
     let added = adds_then _ _ _ _ _ c.loop-byte.invariant c.put.ensures in
-    subst (Adds c.args.self.now c.put.new.self) (ap (λ high. hex_bytes (take c.loop-byte.byte-index c.args.bytes.now) ++ high ∷ c.hex_of-in-loop-byte.result ∷ []) c.hex_of.ensures
-    ∙ ap (λ low. hex_bytes (take c.loop-byte.byte-index c.args.bytes.now) ++ hex_digit (get_or c.args.bytes.now c.loop-byte.byte-index 0 / 16) ∷ low ∷ []) c.hex_of-in-loop-byte.ensures
+    subst (Adds c.args.self.now c.put.new.self) (ap (λ high. hex_bytes (take c.loop-byte.byte-index c.args.bytes.now) ++ high ∷ c.hex_digit-in-loop-byte.result ∷ []) c.hex_digit.ensures
+    ∙ ap (λ low. hex_bytes (take c.loop-byte.byte-index c.args.bytes.now) ++ hex_digit (get_or c.args.bytes.now c.loop-byte.byte-index 0 / 16) ∷ low ∷ []) c.hex_digit-in-loop-byte.ensures
     ∙ sym (hex_bytes-more c.args.bytes.now c.loop-byte.byte-index (omega arith))) added
