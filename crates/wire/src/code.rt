@@ -13,6 +13,9 @@ use crate::{Message, WireAnswer, WireWhy};
 use std::alloc::{AllocError, Global};
 use wire_code::{Fault, Trouble};
 
+/// Room that the spelling of most messages needs no more than.
+const ROOM: usize = 64;
+
 /// The spelling of a message. What the condition asks is that its clients are 1 to 4,096, and that its other
 /// numbers that begin at 1 are not 0.
 ///
@@ -21,7 +24,7 @@ pub fn encode(alloc: Global, message: &Message) -> Result<Vec<u8>, AllocError>
     requires { MessageInRange message.now }
     ensures { IfOk result (λ bytes. Spells message.now bytes.items) }
 {
-    let mut bytes = Vec::new(alloc);
+    let mut bytes = Vec::with_capacity(alloc, ROOM)?;
     message.spell(&mut bytes)?;
     Ok(bytes)
 }
