@@ -1,10 +1,15 @@
 -- Words of public clauses: what is seen of a disk.
 use Rattle.std.specs.Prelude.{◌≡◌, Option, IfSome}
+use Rattle.disk_model.specs.Counts.{Counters}
 use Rattle.disk_model.specs.Disk.{Files}
 use Rattle.disk_model.specs.Seen.{DiskSeen}
 use Rattle.plain_service.specs.Setups.{Setup}
 use Rattle.plain_service.specs.Storing.{files_of}
 use Rattle.cluster_events.specs.Servers.{State}
+
+-- what a disk counts
+abbrev pub counters_of : DiskSeen → Counters
+counters_of disk = record { faults = disk.faults; stops = disk.stops; tally = disk.tally }
 
 -- a disk that was only read: its files, what it counts of changing calls, and its stops are as they were
 pub record IsRead (old new : DiskSeen) : Type 0 where
