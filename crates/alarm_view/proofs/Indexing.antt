@@ -86,7 +86,7 @@ from-all number low id (a ∷ alarms) rising below =
 abbrev pub early : ℕ → List KeptAlarm → ℕ
 early number alarms = prefix_len (λ (alarm : KeptAlarm). not (nat_le number alarm.number)) alarms
 
-from-drop : (number low id : ℕ) (alarms : List KeptAlarm) → RiseFrom low id alarms → from_record number alarms ≡ drop (early number alarms) alarms
+pub from-drop : (number low id : ℕ) (alarms : List KeptAlarm) → RiseFrom low id alarms → from_record number alarms ≡ drop (early number alarms) alarms
 from-drop number low id [] rising = refl
 from-drop number low id (a ∷ alarms) rising = by_test (nat_le number a.number) refl (from-drop number (a.number + 1) (a.notification.id + 1) alarms rising.3) where
   by_test : (b : Bool) → nat_le number a.number ≡ b → from_record number alarms ≡ drop (early number alarms) alarms → cond b (a ∷ from_record number alarms) (from_record number alarms) ≡ drop (cond (not b) (1 + early number alarms) 0) (a ∷ alarms)

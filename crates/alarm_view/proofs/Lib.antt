@@ -6,4 +6,5 @@ pub mod Listing
 pub mod Ranging
 pub mod Searching
 pub mod Indexing
+pub mod Removing
 pub mod Sorting

@@ -2,7 +2,7 @@
 ghost use Rattle.std.specs.Prelude.{◌≡◌, ◌<◌, ◌≤◌, ◌∷◌, [], ◌++◌, drop, length, nat_le, not, insert, vec_len};
 ghost use Rattle.std.specs.Vec.{vec_capacity};
 ghost use Rattle.std.specs.VecDeque.{deque_len, deque_capacity};
-ghost use Rattle.std.specs.List.{prefix_len};
+ghost use Rattle.std.specs.List.{filter, prefix_len};
 ghost use Rattle.alarm_view.specs.Alarms.{kept_alarm, CanAdd, from_record};
 ghost use Rattle.alarm_view.specs.Inside.{IsIndexed};
 
@@ -72,7 +72,45 @@ fn remove_front(alarms: &mut VecDeque<KeptAlarm>, count: usize)
     alarms.truncate(rest);
 }
 
-/// Drops the alarms of records below a number, and their places.
+/// Drops from the order the place of the only alarm whose record is below a number: the first. It is found by halving.
+fn remove_place(alarms: &VecDeque<KeptAlarm>, order: &mut Vec<Place>, number: u32)
+    requires indexed { IsIndexed alarms.now.items order.old.items }
+    requires one { prefix_len (λ alarm. not (nat_le number alarm.number)) alarms.now.items ≡ 1 }
+    ensures { order.new.items ≡ filter (λ place. nat_le number place.number) order.old.items }
+{
+    let first = &alarms[0];
+    let place = place_of(first);
+    let at = count_below(order.as_slice(), cut_before(&place));
+    let _ = order.remove(at);
+}
+
+/// Drops from the order the places of the alarms of records below a number.
+fn drop_places(order: &mut Vec<Place>, number: u32)
+    ensures { order.new.items ≡ filter (λ place. nat_le number place.number) order.old.items }
+{
+    order.retain(|place| is_from(place.number, number));
+}
+
+/// Drops from the order the places of the alarms of records below a number, of which there are so many.
+fn drop_early_places(
+    alarms: &VecDeque<KeptAlarm>,
+    order: &mut Vec<Place>,
+    number: u32,
+    count: usize,
+)
+    requires indexed { IsIndexed alarms.now.items order.old.items }
+    requires count { count
+        ≡ prefix_len (λ alarm. not (nat_le number alarm.number)) alarms.now.items }
+    ensures { order.new.items ≡ filter (λ place. nat_le number place.number) order.old.items }
+{
+    if count == 1 {
+        remove_place(alarms, order, number);
+    } else {
+        drop_places(order, number);
+    }
+}
+
+/// Drops the alarms of records below a number, and their places. The place of one alone is found by halving.
 pub(crate) fn drop_early(alarms: &mut VecDeque<KeptAlarm>, order: &mut Vec<Place>, number: u32)
     requires { IsIndexed alarms.old.items order.old.items }
     ensures alarms { alarms.new.items ≡ from_record number alarms.old.items }
@@ -80,7 +118,7 @@ pub(crate) fn drop_early(alarms: &mut VecDeque<KeptAlarm>, order: &mut Vec<Place
 {
     let count = count_early(alarms, number);
     if count > 0 {
+        drop_early_places(alarms, order, number, count);
         remove_front(alarms, count);
-        order.retain(|place| is_from(place.number, number));
     }
 }

@@ -6,7 +6,8 @@ ghost use Rattle.client_set.specs.Rising.{IsRising};
 ghost use Rattle.alarm_view.specs.Alarms.{notifications, AreInOrder};
 ghost use Rattle.alarm_view.specs.Modes.{way_of};
 ghost use Rattle.alarm_view.specs.Search.{has_mode, is_beyond};
-ghost use Rattle.alarm_view.specs.Inside.{place_first, point_in, places_of, IsCutAt, IsRangeOf, IsIndexed, IsOfId, LacksId, IsAskedAt, IsFoundWithin, StartsAt, GoesOnAt, IsIdIn, cut_at};
+ghost use Rattle.alarm_view.specs.Inside.{place_first, point_in, places_of, cut_at};
+ghost use Rattle.alarm_view.specs.Inside.{IsCutAt, IsRangeOf, IsIndexed, IsOfId, LacksId, IsAskedAt, IsFoundWithin, StartsAt, GoesOnAt, IsIdIn};
 
 use crate::place::{Cut, Place, is_below};
 use crate::{Cursor, Direction, KeptAlarm, SearchMode};

@@ -1,5 +1,4 @@
-use Rattle.std.proofs.Common.{◌≡◌, ap, sym, ◌∙◌, drop, arith, rules}
-use Rattle.std.proofs.lemmas.Fn.{filter_same}
+use Rattle.std.proofs.Common.{◌≡◌, ap, sym, ◌∙◌, drop, arith}
 use Rattle.alarm_view.specs.Alarms.{from_record}
 use Rattle.alarm_view.proofs.Indexing.{early, early-within, from_record-drop, order-dropped}
 use Rattle.alarm_view.proofs.changing.drop_early.Goals as goal
@@ -21,7 +20,7 @@ returns-then-count-gt0-clause-alarms c =
 
 pub returns-then-count-gt0-clause-indexed : goal.returns-then-count-gt0-clause-indexed
 returns-then-count-gt0-clause-indexed c =
-    order-dropped c.args.alarms.now.items c.args.order.now.items c.requires c.args.number _ _ (left (goal.at.returns-then-count-gt0-clause-indexed c).After-remove_front) (filter_same _ _ _ (λ x b f' k. search rules) _ _ c.retain.ensures.filtered)
+    order-dropped c.args.alarms.now.items c.args.order.now.items c.requires c.args.number _ _ (left (goal.at.returns-then-count-gt0-clause-indexed c).After-remove_front) c.drop_early_places.ensures
 
 pub returns-else-count-gt0-clause-alarms : goal.returns-else-count-gt0-clause-alarms
 returns-else-count-gt0-clause-alarms c =
