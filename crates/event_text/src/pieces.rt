@@ -10,7 +10,7 @@ use cluster_events::{ServerRole, Why};
 use ntf_types::Notification;
 use script_lines::{Line, Server};
 use script_printer::{
-    Printable, print_line, print_note, put, put_all, put_number, put_signed, put_stream,
+    Printable, put, put_all, put_number, put_script_line, put_shown_note, put_signed, put_stream,
 };
 use std::alloc::{AllocError, Global};
 use stream_config::StreamName;
@@ -41,36 +41,36 @@ pub(crate) enum Piece<'a> {
 
 /// Adds a comma and a number.
 #[tactic(auto, using(script_printer::proofs::Chain::chained))]
-fn put_further(alloc: Global, out: &mut Vec<u8>, number: u64) -> Result<(), AllocError>
+fn put_further(out: &mut Vec<u8>, number: u64) -> Result<(), AllocError>
     ensures { OnOk result (out.new.items ≡ out.old.items ++ (codes "," ++ decimal number)) }
 {
     put(out, b",")?;
-    put_number(alloc, out, number)?;
+    put_number(out, number)?;
     Ok(())
 }
 
 /// Adds numbers, each behind a comma.
-fn put_furthers(alloc: Global, out: &mut Vec<u8>, numbers: &[u64]) -> Result<(), AllocError>
+fn put_furthers(out: &mut Vec<u8>, numbers: &[u64]) -> Result<(), AllocError>
     ensures { OnOk result (out.new.items ≡ out.old.items
         ++ flat_map (λ one. codes "," ++ decimal one) numbers.now) }
 {
     for number in numbers {
-        put_further(alloc, out, *number)?;
+        put_further(out, *number)?;
     }
     Ok(())
 }
 
 /// Adds numbers with commas between them.
 #[tactic(auto, using(script_printer::proofs::Chain::chained))]
-fn put_ids(alloc: Global, out: &mut Vec<u8>, numbers: &[u64]) -> Result<(), AllocError>
+fn put_ids(out: &mut Vec<u8>, numbers: &[u64]) -> Result<(), AllocError>
     ensures { OnOk result (out.new.items ≡ out.old.items
         ++ join_by decimal (codes ",") numbers.now) }
 {
     match numbers {
         [] => put(out, b""),
         [first, others @ ..] => {
-            put_number(alloc, out, *first)?;
-            put_furthers(alloc, out, others)?;
+            put_number(out, *first)?;
+            put_furthers(out, others)?;
             Ok(())
         }
     }
@@ -89,7 +89,7 @@ fn put_fault(out: &mut Vec<u8>, why: WireWhy) -> Result<(), AllocError>
 
 /// Adds the reason for which a byte string had no effect.
 #[tactic(auto, using(script_printer::proofs::Chain::chained))]
-fn put_why(alloc: Global, out: &mut Vec<u8>, why: Why) -> Result<(), AllocError>
+fn put_why(out: &mut Vec<u8>, why: Why) -> Result<(), AllocError>
     ensures { OnOk result (out.new.items ≡ out.old.items ++ why_text why) }
 {
     match why {
@@ -97,7 +97,7 @@ fn put_why(alloc: Global, out: &mut Vec<u8>, why: Why) -> Result<(), AllocError>
         Why::AheadRequest => put(out, b"ahead"),
         Why::Busy { number } => {
             put(out, b"busy ")?;
-            put_number(alloc, out, number)?;
+            put_number(out, number)?;
             Ok(())
         }
         Why::DoneReceipt => put(out, b"done"),
@@ -109,7 +109,7 @@ fn put_why(alloc: Global, out: &mut Vec<u8>, why: Why) -> Result<(), AllocError>
         Why::GoneItem => put(out, b"gone"),
         Why::Bad { front, why } => {
             put(out, b"bad ")?;
-            put_number(alloc, out, u64::from(front))?;
+            put_number(out, u64::from(front))?;
             put(out, b" ")?;
             put_fault(out, why)?;
             Ok(())
@@ -132,27 +132,21 @@ pub fn role_word(role: ServerRole) -> &'static str
 }
 
 /// Adds a piece.
-fn put_piece(alloc: Global, out: &mut Vec<u8>, piece: &Piece) -> Result<(), AllocError>
+fn put_piece(out: &mut Vec<u8>, piece: &Piece) -> Result<(), AllocError>
     ensures { OnOk result (out.new.items ≡ out.old.items ++ piece_text piece.now) }
 {
     match piece {
         Piece::Word(word) => put(out, word),
-        Piece::Number(number) => put_number(alloc, out, *number),
-        Piece::Signed(number) => put_signed(alloc, out, *number),
+        Piece::Number(number) => put_number(out, *number),
+        Piece::Signed(number) => put_signed(out, *number),
         Piece::Answer(status) => put(out, status.word().as_bytes()),
-        Piece::Note(notification) => {
-            let text = print_note(alloc, notification)?;
-            put(out, text.as_slice())
-        }
-        Piece::Stream(name) => put_stream(alloc, out, name),
-        Piece::Script(line) => {
-            let text = print_line(alloc, line)?;
-            put(out, text.as_slice())
-        }
-        Piece::Ids(ids) => put_ids(alloc, out, ids),
-        Piece::Reason(why) => put_why(alloc, out, *why),
+        Piece::Note(notification) => put_shown_note(out, notification),
+        Piece::Stream(name) => put_stream(out, name),
+        Piece::Script(line) => put_script_line(out, line),
+        Piece::Ids(ids) => put_ids(out, ids),
+        Piece::Reason(why) => put_why(out, *why),
         Piece::Role(role) => put(out, role_word(*role).as_bytes()),
-        Piece::Hand(Some(number)) => put_number(alloc, out, *number),
+        Piece::Hand(Some(number)) => put_number(out, *number),
         Piece::Hand(None) => put(out, b"-"),
         Piece::Node(Server::A) => put(out, b"a"),
         Piece::Node(Server::B) => put(out, b"b"),
@@ -164,8 +158,8 @@ impl Printable for Piece<'_> {
 
     ghost text = { piece_text };
 
-    fn print(&self, alloc: Global, out: &mut Vec<u8>) -> Result<(), AllocError> {
-        put_piece(alloc, out, self)
+    fn print(&self, out: &mut Vec<u8>) -> Result<(), AllocError> {
+        put_piece(out, self)
     }
 }
 
@@ -180,7 +174,7 @@ pub(crate) fn put_line(
     ensures err { OnErr result (lines.new.items ≡ lines.old.items) }
 {
     let mut text = Vec::new(alloc);
-    put_all(alloc, &mut text, pieces)?;
+    put_all(&mut text, pieces)?;
     lines.push(Seq::from_vec(text))?;
     Ok(())
 }

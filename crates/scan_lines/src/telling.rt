@@ -22,7 +22,7 @@ fn unread_line(alloc: Global, shown: Shown, number: u32) -> Result<Vec<u8>, Allo
     match shown {
         Shown::All => {
             put(&mut line, b"rec ")?;
-            put_number(alloc, &mut line, u64::from(number))?;
+            put_number(&mut line, u64::from(number))?;
             put(&mut line, b" unreadable\n")?;
             Ok(line)
         }
@@ -98,7 +98,7 @@ pub fn rest_line(alloc: Global, shown: Shown, rest: &[u8]) -> Result<Vec<u8>, Al
                 return Ok(line);
             }
             put(&mut line, b"rest ")?;
-            put_number(alloc, &mut line, rest.len() as u64)?;
+            put_number(&mut line, rest.len() as u64)?;
             put(&mut line, b"\n")?;
             Ok(line)
         }

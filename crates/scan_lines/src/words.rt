@@ -67,7 +67,7 @@ pub(crate) fn read_line(
 {
     let mut line = Vec::new(alloc);
     put(&mut line, b"rec ")?;
-    put_number(alloc, &mut line, u64::from(number))?;
+    put_number(&mut line, u64::from(number))?;
     put_tokens(&mut line, pieces, texts)?;
     put(&mut line, b"\n")?;
     Ok(line)

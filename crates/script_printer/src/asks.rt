@@ -15,15 +15,14 @@ use calls::{Ask, Call};
 use ntf_filters::{Filter, FilterSet};
 use ntf_types::Notification;
 use record_print::Header;
-use std::alloc::{AllocError, Global};
+use std::alloc::AllocError;
 use stream_config::{StreamAttrs, StreamName};
 
 /// Adds a version.
-fn put_version(alloc: Global, out: &mut Vec<u8>, version: Version) -> Result<(), AllocError>
+fn put_version(out: &mut Vec<u8>, version: Version) -> Result<(), AllocError>
     ensures { OnOk result (out.new.items ≡ out.old.items ++ version_text version) }
 {
     put_pieces(
-        alloc,
         out,
         &[
             Piece::Word(&[version.release]),
@@ -37,23 +36,22 @@ fn put_version(alloc: Global, out: &mut Vec<u8>, version: Version) -> Result<(),
 
 /// Adds a filter's lists.
 #[tactic(auto, unfolding(script_language::specs::Printing::filter_text), using(crate::proofs::Chain::chained, crate::proofs::Chain::chained_last))]
-fn put_filter(alloc: Global, out: &mut Vec<u8>, filter: &Filter) -> Result<(), AllocError>
+fn put_filter(out: &mut Vec<u8>, filter: &Filter) -> Result<(), AllocError>
     ensures { OnOk result (out.new.items ≡ out.old.items ++ filter_text filter.now) }
 {
-    put_list::<HexWords>(alloc, out, b" types=", filter.types.as_slice())?;
-    put_list::<Names>(alloc, out, b" objs=", filter.objects.as_slice())?;
-    put_list::<Names>(alloc, out, b" bys=", filter.notifiers.as_slice())?;
-    put_list::<Classes>(alloc, out, b" classes=", filter.classes.as_slice())?;
-    put_list::<Numbers16>(alloc, out, b" sources=", filter.sources.as_slice())?;
-    put_list::<Numbers16>(alloc, out, b" causes=", filter.causes.as_slice())?;
-    put_list::<Numbers16>(alloc, out, b" sevs=", filter.severities.as_slice())?;
+    put_list::<HexWords>(out, b" types=", filter.types.as_slice())?;
+    put_list::<Names>(out, b" objs=", filter.objects.as_slice())?;
+    put_list::<Names>(out, b" bys=", filter.notifiers.as_slice())?;
+    put_list::<Classes>(out, b" classes=", filter.classes.as_slice())?;
+    put_list::<Numbers16>(out, b" sources=", filter.sources.as_slice())?;
+    put_list::<Numbers16>(out, b" causes=", filter.causes.as_slice())?;
+    put_list::<Numbers16>(out, b" sevs=", filter.severities.as_slice())?;
     Ok(())
 }
 
 /// Adds the words of a type and its filter, where there is one.
 #[tactic(auto, using(crate::proofs::Chain::chained, crate::proofs::Chain::chained_last))]
 fn put_maybe_filter(
-    alloc: Global,
     out: &mut Vec<u8>,
     words: &[u8],
     filter: &Option<Filter>,
@@ -65,27 +63,26 @@ fn put_maybe_filter(
         return Ok(());
     };
     put(out, words)?;
-    put_filter(alloc, out, filter)?;
+    put_filter(out, filter)?;
     Ok(())
 }
 
 /// Adds a set of filters.
 #[tactic(auto, unfolding(script_language::specs::Printing::filters_text), using(crate::proofs::Chain::chained, crate::proofs::Chain::chained_last))]
-fn put_filters(alloc: Global, out: &mut Vec<u8>, filters: &FilterSet) -> Result<(), AllocError>
+fn put_filters(out: &mut Vec<u8>, filters: &FilterSet) -> Result<(), AllocError>
     ensures { OnOk result (out.new.items ≡ out.old.items ++ filters_text filters.now) }
 {
-    put_maybe_filter(alloc, out, b" filter objects", &filters.objects)?;
-    put_maybe_filter(alloc, out, b" filter attributes", &filters.attributes)?;
-    put_maybe_filter(alloc, out, b" filter states", &filters.states)?;
-    put_maybe_filter(alloc, out, b" filter alarm", &filters.alarms)?;
-    put_maybe_filter(alloc, out, b" filter security", &filters.security)?;
+    put_maybe_filter(out, b" filter objects", &filters.objects)?;
+    put_maybe_filter(out, b" filter attributes", &filters.attributes)?;
+    put_maybe_filter(out, b" filter states", &filters.states)?;
+    put_maybe_filter(out, b" filter alarm", &filters.alarms)?;
+    put_maybe_filter(out, b" filter security", &filters.security)?;
     Ok(())
 }
 
 /// Adds the opening of a stream.
 #[tactic(auto, unfolding(script_language::specs::Printing::call_text), using(crate::proofs::Chain::chained, crate::proofs::Chain::chained_last))]
 fn put_open(
-    alloc: Global,
     out: &mut Vec<u8>,
     stream: &StreamName,
     create: &Option<StreamAttrs>,
@@ -94,15 +91,14 @@ fn put_open(
         ++ call_text (asked.LogOpen stream.now create.now)) }
 {
     put(out, b"open ")?;
-    put_stream(alloc, out, stream)?;
-    put_create(alloc, out, create)?;
+    put_stream(out, stream)?;
+    put_create(out, create)?;
     Ok(())
 }
 
 /// Adds the writing of a record.
 #[tactic(auto, unfolding(script_language::specs::Printing::call_text), using(crate::proofs::Chain::chained, crate::proofs::Chain::chained_last))]
 fn put_write(
-    alloc: Global,
     out: &mut Vec<u8>,
     stream: &StreamName,
     invocation: u64,
@@ -115,13 +111,13 @@ fn put_write(
         ++ call_text (asked.LogWrite stream.now invocation flags time header.now body.now)) }
 {
     put(out, b"write ")?;
-    put_stream(alloc, out, stream)?;
+    put_stream(out, stream)?;
     put(out, b" inv=")?;
-    put_number(alloc, out, invocation)?;
+    put_number(out, invocation)?;
     put(out, b" flags=")?;
-    put_number(alloc, out, u64::from(flags))?;
-    put_known_time(alloc, out, b" time=", time)?;
-    put_header(alloc, out, header)?;
+    put_number(out, u64::from(flags))?;
+    put_known_time(out, b" time=", time)?;
+    put_header(out, header)?;
     put(out, b" body=")?;
     put_quoted(out, body.as_slice())?;
     Ok(())
@@ -129,63 +125,52 @@ fn put_write(
 
 /// Adds the closing of a stream.
 #[tactic(auto, unfolding(script_language::specs::Printing::call_text), using(crate::proofs::Chain::chained, crate::proofs::Chain::chained_last))]
-fn put_close(alloc: Global, out: &mut Vec<u8>, stream: &StreamName) -> Result<(), AllocError>
+fn put_close(out: &mut Vec<u8>, stream: &StreamName) -> Result<(), AllocError>
     ensures { OnOk result (out.new.items ≡ out.old.items ++ call_text (asked.LogClose stream.now)) }
 {
     put(out, b"close ")?;
-    put_stream(alloc, out, stream)?;
+    put_stream(out, stream)?;
     Ok(())
 }
 
 /// Adds the setting of a stream's mask.
 #[tactic(auto, unfolding(script_language::specs::Printing::call_text), using(crate::proofs::Chain::chained, crate::proofs::Chain::chained_last))]
-fn put_filtering(
-    alloc: Global,
-    out: &mut Vec<u8>,
-    stream: &StreamName,
-    mask: u32,
-) -> Result<(), AllocError>
+fn put_filtering(out: &mut Vec<u8>, stream: &StreamName, mask: u32) -> Result<(), AllocError>
     ensures { OnOk result (out.new.items ≡ out.old.items
         ++ call_text (asked.LogFilter stream.now mask)) }
 {
     put(out, b"filter ")?;
-    put_stream(alloc, out, stream)?;
+    put_stream(out, stream)?;
     put(out, b" mask=")?;
-    put_number(alloc, out, u64::from(mask))?;
+    put_number(out, u64::from(mask))?;
     Ok(())
 }
 
 /// Adds the sending of a notification.
 #[tactic(auto, unfolding(script_language::specs::Printing::call_text), using(crate::proofs::Chain::chained, crate::proofs::Chain::chained_last))]
-fn put_send(alloc: Global, out: &mut Vec<u8>, note: &Notification) -> Result<(), AllocError>
+fn put_send(out: &mut Vec<u8>, note: &Notification) -> Result<(), AllocError>
     ensures { OnOk result (out.new.items ≡ out.old.items ++ call_text (asked.NtfSend note.now)) }
 {
     put(out, b"send ")?;
-    put_note(alloc, out, note)?;
+    put_note(out, note)?;
     Ok(())
 }
 
 /// Adds a subscription.
 #[tactic(auto, unfolding(script_language::specs::Printing::call_text), using(crate::proofs::Chain::chained, crate::proofs::Chain::chained_last))]
-fn put_subscribe(
-    alloc: Global,
-    out: &mut Vec<u8>,
-    id: u32,
-    filters: &FilterSet,
-) -> Result<(), AllocError>
+fn put_subscribe(out: &mut Vec<u8>, id: u32, filters: &FilterSet) -> Result<(), AllocError>
     ensures { OnOk result (out.new.items ≡ out.old.items
         ++ call_text (asked.NtfSubscribe id filters.now)) }
 {
     put(out, b"subscribe ")?;
-    put_number(alloc, out, u64::from(id))?;
-    put_filters(alloc, out, filters)?;
+    put_number(out, u64::from(id))?;
+    put_filters(out, filters)?;
     Ok(())
 }
 
 /// Adds the beginning of a reading.
 #[tactic(auto, unfolding(script_language::specs::Printing::call_text), using(crate::proofs::Chain::chained, crate::proofs::Chain::chained_last))]
 fn put_reader(
-    alloc: Global,
     out: &mut Vec<u8>,
     mode: u32,
     value: i64,
@@ -195,21 +180,21 @@ fn put_reader(
         ++ call_text (asked.ReaderStart mode value filters.now)) }
 {
     put(out, b"reader mode=")?;
-    put_number(alloc, out, u64::from(mode))?;
+    put_number(out, u64::from(mode))?;
     put(out, b" value=")?;
-    put_signed(alloc, out, value)?;
-    put_filters(alloc, out, filters)?;
+    put_signed(out, value)?;
+    put_filters(out, filters)?;
     Ok(())
 }
 
 /// Adds a call.
 #[tactic(auto, unfolding(script_language::specs::Printing::call_text))]
-fn put_call(alloc: Global, out: &mut Vec<u8>, call: &Call) -> Result<(), AllocError>
+fn put_call(out: &mut Vec<u8>, call: &Call) -> Result<(), AllocError>
     ensures { OnOk result (out.new.items ≡ out.old.items ++ call_text call.now) }
 {
     match call {
         Call::LogInit | Call::NtfInit => put(out, b"init"),
-        Call::LogOpen { stream, create } => put_open(alloc, out, stream, create),
+        Call::LogOpen { stream, create } => put_open(out, stream, create),
         Call::LogWrite {
             stream,
             invocation,
@@ -217,14 +202,13 @@ fn put_call(alloc: Global, out: &mut Vec<u8>, call: &Call) -> Result<(), AllocEr
             time,
             header,
             body,
-        } => put_write(alloc, out, stream, *invocation, *flags, *time, header, body),
-        Call::LogClose { stream } => put_close(alloc, out, stream),
-        Call::LogFilter { stream, mask } => put_filtering(alloc, out, stream, *mask),
+        } => put_write(out, stream, *invocation, *flags, *time, header, body),
+        Call::LogClose { stream } => put_close(out, stream),
+        Call::LogFilter { stream, mask } => put_filtering(out, stream, *mask),
         Call::LogFini | Call::NtfFini => put(out, b"fini"),
-        Call::NtfSend { notification } => put_send(alloc, out, notification.get()),
-        Call::NtfSubscribe { id, filters } => put_subscribe(alloc, out, *id, filters.get()),
+        Call::NtfSend { notification } => put_send(out, notification.get()),
+        Call::NtfSubscribe { id, filters } => put_subscribe(out, *id, filters.get()),
         Call::NtfUnsubscribe { id } => put_pieces(
-            alloc,
             out,
             &[Piece::Word(b"unsubscribe "), Piece::Number(u64::from(*id))],
         ),
@@ -232,9 +216,8 @@ fn put_call(alloc: Global, out: &mut Vec<u8>, call: &Call) -> Result<(), AllocEr
             mode,
             value,
             filters,
-        } => put_reader(alloc, out, *mode, *value, filters.get()),
+        } => put_reader(out, *mode, *value, filters.get()),
         Call::ReaderRead { direction } => put_pieces(
-            alloc,
             out,
             &[Piece::Word(b"read "), Piece::Number(u64::from(*direction))],
         ),
@@ -244,21 +227,21 @@ fn put_call(alloc: Global, out: &mut Vec<u8>, call: &Call) -> Result<(), AllocEr
 
 /// Adds an initialisation.
 #[tactic(auto, using(crate::proofs::Chain::chained, crate::proofs::Chain::chained_last))]
-fn put_init(alloc: Global, out: &mut Vec<u8>, version: Version) -> Result<(), AllocError>
+fn put_init(out: &mut Vec<u8>, version: Version) -> Result<(), AllocError>
     ensures { OnOk result (out.new.items ≡ out.old.items
         ++ joined (codes "init " ∷ version_text version ∷ [])) }
 {
     put(out, b"init ")?;
-    put_version(alloc, out, version)?;
+    put_version(out, version)?;
     Ok(())
 }
 
 /// Adds what a client asks.
-pub(crate) fn put_ask(alloc: Global, out: &mut Vec<u8>, ask: &Ask) -> Result<(), AllocError>
+pub(crate) fn put_ask(out: &mut Vec<u8>, ask: &Ask) -> Result<(), AllocError>
     ensures { OnOk result (out.new.items ≡ out.old.items ++ ask_text ask.now) }
 {
     match ask {
-        Ask::Start { version, .. } => put_init(alloc, out, *version),
-        Ask::Plain { call } => put_call(alloc, out, call),
+        Ask::Start { version, .. } => put_init(out, *version),
+        Ask::Plain { call } => put_call(out, call),
     }
 }

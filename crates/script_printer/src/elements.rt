@@ -6,7 +6,7 @@ use crate::pieces::{put_class, put_hex, put_number, put_quoted};
 use crate::values::{put_change, put_pair, put_state_change};
 use ais_values::{ClassId, Name};
 use ntf_types::{Change, Pair, StateChange};
-use std::alloc::{AllocError, Global};
+use std::alloc::AllocError;
 
 /// Event types.
 pub(crate) struct HexWords;
@@ -18,7 +18,7 @@ impl Writable for HexWords {
 
     ghost text = { hex_word };
 
-    fn write(_alloc: Global, out: &mut Vec<u8>, value: &u16) -> Result<(), AllocError> {
+    fn write(out: &mut Vec<u8>, value: &u16) -> Result<(), AllocError> {
         put_hex(out, *value)
     }
 }
@@ -33,8 +33,8 @@ impl Writable for Numbers16 {
 
     ghost text = { decimal };
 
-    fn write(alloc: Global, out: &mut Vec<u8>, value: &u16) -> Result<(), AllocError> {
-        put_number(alloc, out, u64::from(*value))
+    fn write(out: &mut Vec<u8>, value: &u16) -> Result<(), AllocError> {
+        put_number(out, u64::from(*value))
     }
 }
 
@@ -48,8 +48,8 @@ impl Writable for Numbers64 {
 
     ghost text = { decimal };
 
-    fn write(alloc: Global, out: &mut Vec<u8>, value: &u64) -> Result<(), AllocError> {
-        put_number(alloc, out, *value)
+    fn write(out: &mut Vec<u8>, value: &u64) -> Result<(), AllocError> {
+        put_number(out, *value)
     }
 }
 
@@ -63,7 +63,7 @@ impl Writable for Names {
 
     ghost text = { quoted_text };
 
-    fn write(_alloc: Global, out: &mut Vec<u8>, value: &Name) -> Result<(), AllocError> {
+    fn write(out: &mut Vec<u8>, value: &Name) -> Result<(), AllocError> {
         put_quoted(out, value.as_slice())
     }
 }
@@ -78,8 +78,8 @@ impl Writable for Classes {
 
     ghost text = { class_text };
 
-    fn write(alloc: Global, out: &mut Vec<u8>, value: &ClassId) -> Result<(), AllocError> {
-        put_class(alloc, out, *value)
+    fn write(out: &mut Vec<u8>, value: &ClassId) -> Result<(), AllocError> {
+        put_class(out, *value)
     }
 }
 
@@ -93,8 +93,8 @@ impl Writable for Pairs {
 
     ghost text = { pair_text };
 
-    fn write(alloc: Global, out: &mut Vec<u8>, value: &Pair) -> Result<(), AllocError> {
-        put_pair(alloc, out, value)
+    fn write(out: &mut Vec<u8>, value: &Pair) -> Result<(), AllocError> {
+        put_pair(out, value)
     }
 }
 
@@ -108,8 +108,8 @@ impl Writable for Changes {
 
     ghost text = { change_text };
 
-    fn write(alloc: Global, out: &mut Vec<u8>, value: &Change) -> Result<(), AllocError> {
-        put_change(alloc, out, value)
+    fn write(out: &mut Vec<u8>, value: &Change) -> Result<(), AllocError> {
+        put_change(out, value)
     }
 }
 
@@ -123,7 +123,7 @@ impl Writable for StateChanges {
 
     ghost text = { state_change_text };
 
-    fn write(alloc: Global, out: &mut Vec<u8>, value: &StateChange) -> Result<(), AllocError> {
-        put_state_change(alloc, out, value)
+    fn write(out: &mut Vec<u8>, value: &StateChange) -> Result<(), AllocError> {
+        put_state_change(out, value)
     }
 }

@@ -10,7 +10,7 @@ mod pieces;
 mod streams;
 mod values;
 
-pub use lines::{print_line, print_script};
-pub use notes::print_note;
+pub use lines::{print_line, print_script, put_script_line};
+pub use notes::{print_note, put_shown_note};
 pub use pieces::{Printable, put, put_all, put_number, put_quoted, put_signed};
 pub use streams::put_stream;

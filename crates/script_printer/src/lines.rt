@@ -28,7 +28,6 @@ fn put_server(out: &mut Vec<u8>, server: Server) -> Result<(), AllocError>
 /// Adds a cluster line.
 #[tactic(auto, unfolding(script_language::specs::Printing::line_text))]
 fn put_cluster(
-    alloc: Global,
     out: &mut Vec<u8>,
     start: i64,
     queue: u32,
@@ -40,48 +39,37 @@ fn put_cluster(
     ensures { OnOk result (out.new.items ≡ out.old.items
         ++ line_text (lines.Cluster start queue callbacks alarm.now ntf.now sys.now)) }
 {
-    put_labelled(alloc, out, b"cluster start=", &Piece::Signed(start))?;
-    put_labelled(alloc, out, b" queue=", &Piece::Number(u64::from(queue)))?;
-    put_labelled(
-        alloc,
-        out,
-        b" callbacks=",
-        &Piece::Number(u64::from(callbacks)),
-    )?;
-    put_options(alloc, out, b" alarm", alarm)?;
-    put_options(alloc, out, b" ntf", ntf)?;
-    put_options(alloc, out, b" sys", sys)?;
+    put_labelled(out, b"cluster start=", &Piece::Signed(start))?;
+    put_labelled(out, b" queue=", &Piece::Number(u64::from(queue)))?;
+    put_labelled(out, b" callbacks=", &Piece::Number(u64::from(callbacks)))?;
+    put_options(out, b" alarm", alarm)?;
+    put_options(out, b" ntf", ntf)?;
+    put_options(out, b" sys", sys)?;
     Ok(())
 }
 
 /// Adds a service's word, a client and what it asks.
 #[tactic(auto, using(crate::proofs::Chain::chained, crate::proofs::Chain::chained_last))]
-fn put_asked(
-    alloc: Global,
-    out: &mut Vec<u8>,
-    word: &[u8],
-    client: u16,
-    ask: &Ask,
-) -> Result<(), AllocError>
+fn put_asked(out: &mut Vec<u8>, word: &[u8], client: u16, ask: &Ask) -> Result<(), AllocError>
     ensures { OnOk result (out.new.items ≡ out.old.items
         ++ joined (word.now ∷ decimal client ∷ codes " " ∷ ask_text ask.now ∷ [])) }
 {
     put(out, word)?;
-    put_number(alloc, out, u64::from(client))?;
+    put_number(out, u64::from(client))?;
     put(out, b" ")?;
-    put_ask(alloc, out, ask)?;
+    put_ask(out, ask)?;
     Ok(())
 }
 
 /// Adds the line that arms a server.
 #[tactic(auto, unfolding(script_language::specs::Printing::line_text), using(crate::proofs::Chain::chained, crate::proofs::Chain::chained_last))]
-fn put_arm(alloc: Global, out: &mut Vec<u8>, server: Server, count: u64) -> Result<(), AllocError>
+fn put_arm(out: &mut Vec<u8>, server: Server, count: u64) -> Result<(), AllocError>
     ensures { OnOk result (out.new.items ≡ out.old.items ++ line_text (lines.Arm server count)) }
 {
     put(out, b"arm ")?;
     put_server(out, server)?;
     put(out, b" ")?;
-    put_number(alloc, out, count)?;
+    put_number(out, count)?;
     Ok(())
 }
 
@@ -96,9 +84,9 @@ fn put_word_server(out: &mut Vec<u8>, word: &[u8], server: Server) -> Result<(),
     Ok(())
 }
 
-/// Adds a line without its LF.
+/// Adds a line without its LF. On want of memory nothing is said of `out`.
 #[tactic(auto, unfolding(script_language::specs::Printing::line_text))]
-fn put_line(alloc: Global, out: &mut Vec<u8>, line: &Line) -> Result<(), AllocError>
+pub fn put_script_line(out: &mut Vec<u8>, line: &Line) -> Result<(), AllocError>
     ensures { OnOk result (out.new.items ≡ out.old.items ++ line_text line.now) }
 {
     match line {
@@ -109,21 +97,14 @@ fn put_line(alloc: Global, out: &mut Vec<u8>, line: &Line) -> Result<(), AllocEr
             alarm,
             ntf,
             sys,
-        } => put_cluster(alloc, out, *start, *queue, *callbacks, alarm, ntf, sys),
-        Line::Time { now } => {
-            put_pieces(alloc, out, &[Piece::Word(b"time "), Piece::Signed(*now)])
-        }
-        Line::Log { client, ask } => put_asked(alloc, out, b"log ", *client, ask),
-        Line::Ntf { client, ask } => put_asked(alloc, out, b"ntf ", *client, ask),
+        } => put_cluster(out, *start, *queue, *callbacks, alarm, ntf, sys),
+        Line::Time { now } => put_pieces(out, &[Piece::Word(b"time "), Piece::Signed(*now)]),
+        Line::Log { client, ask } => put_asked(out, b"log ", *client, ask),
+        Line::Ntf { client, ask } => put_asked(out, b"ntf ", *client, ask),
         Line::Deliver { place } => {
-            put_pieces(
-                alloc,
-                out,
-                &[Piece::Word(b"deliver "), Piece::Number(*place)],
-            )
+            put_pieces(out, &[Piece::Word(b"deliver "), Piece::Number(*place)])
         }
         Line::Resend { client } => put_pieces(
-            alloc,
             out,
             &[Piece::Word(b"resend "), Piece::Number(u64::from(*client))],
         ),
@@ -132,17 +113,15 @@ fn put_line(alloc: Global, out: &mut Vec<u8>, line: &Line) -> Result<(), AllocEr
         Line::Work => put(out, b"work"),
         Line::Push => put(out, b"push"),
         Line::Inject { bytes } => put_pieces(
-            alloc,
             out,
             &[Piece::Word(b"inject "), Piece::Quoted(bytes.as_slice())],
         ),
         Line::Settle => put(out, b"settle"),
         Line::Crash { server } => put_word_server(out, b"crash ", *server),
-        Line::Arm { server, count } => put_arm(alloc, out, *server, *count),
+        Line::Arm { server, count } => put_arm(out, *server, *count),
         Line::Disarm => put(out, b"disarm"),
         Line::Restart { server } => put_word_server(out, b"restart ", *server),
         Line::DispatchOne { client } => put_pieces(
-            alloc,
             out,
             &[
                 Piece::Word(b"dispatch "),
@@ -151,7 +130,6 @@ fn put_line(alloc: Global, out: &mut Vec<u8>, line: &Line) -> Result<(), AllocEr
             ],
         ),
         Line::DispatchAll { client, workers } => put_pieces(
-            alloc,
             out,
             &[
                 Piece::Word(b"dispatch "),
@@ -163,7 +141,6 @@ fn put_line(alloc: Global, out: &mut Vec<u8>, line: &Line) -> Result<(), AllocEr
         Line::Servers => put(out, b"servers"),
         Line::Files => put(out, b"files"),
         Line::Cat { name } => put_pieces(
-            alloc,
             out,
             &[Piece::Word(b"cat "), Piece::Quoted(name.as_slice())],
         ),
@@ -176,7 +153,7 @@ fn written(alloc: Global, lines: &[Line]) -> Result<Vec<u8>, AllocError>
 {
     let mut out = Vec::new(alloc);
     for line in lines {
-        put_line(alloc, &mut out, line)?;
+        put_script_line(&mut out, line)?;
         put(&mut out, b"\n")?;
     }
     Ok(out)
@@ -188,7 +165,7 @@ pub fn print_line(alloc: Global, line: &Line) -> Result<Vec<u8>, AllocError>
     ensures spelled { (raw : List ℕ) → Spells line.now raw → Spells line.now (line_text line.now) }
 {
     let mut out = Vec::new(alloc);
-    put_line(alloc, &mut out, line)?;
+    put_script_line(&mut out, line)?;
     Ok(out)
 }
 

@@ -33,48 +33,37 @@ fn put_kind(out: &mut Vec<u8>, body: &Body) -> Result<(), AllocError>
 }
 
 /// Adds an event time: always where it is asked for, and else where it is known.
-fn put_time(alloc: Global, out: &mut Vec<u8>, time: &i64, always: bool) -> Result<(), AllocError>
+fn put_time(out: &mut Vec<u8>, time: &i64, always: bool) -> Result<(), AllocError>
     ensures { OnOk result (out.new.items ≡ out.old.items
         ++ (if always then given_time_text else known_time_text (codes " time=")) time.now) }
 {
     if always {
-        put_word_signed(alloc, out, b" time=", *time)
+        put_word_signed(out, b" time=", *time)
     } else {
-        put_known_time(alloc, out, b" time=", *time)
+        put_known_time(out, b" time=", *time)
     }
 }
 
 /// Adds what each notification has. The time is always written where that is asked for, and else where it is known.
 #[tactic(auto, unfolding(script_language::specs::Printing::heading_text_by))]
-fn put_heading(
-    alloc: Global,
-    out: &mut Vec<u8>,
-    note: &Notification,
-    always: bool,
-) -> Result<(), AllocError>
+fn put_heading(out: &mut Vec<u8>, note: &Notification, always: bool) -> Result<(), AllocError>
     ensures { OnOk result (out.new.items ≡ out.old.items ++ heading_text_by (if always then
         given_time_text else known_time_text (codes " time=")) (heading_part note.now)) }
 {
-    put_labelled(alloc, out, b" type=", &Piece::Hex(note.event_type))?;
-    put_labelled(alloc, out, b" obj=", &Piece::Quoted(note.object.as_slice()))?;
-    put_labelled(
-        alloc,
-        out,
-        b" by=",
-        &Piece::Quoted(note.notifier.as_slice()),
-    )?;
-    put_labelled(alloc, out, b" class=", &Piece::Class(note.class))?;
-    put_time(alloc, out, &note.event_time, always)?;
-    put_list::<Numbers64>(alloc, out, b" corr=", note.correlated.as_slice())?;
-    put_labelled(alloc, out, b" text=", &Piece::Quoted(note.text.as_slice()))?;
-    put_list::<Pairs>(alloc, out, b" info=", note.info.as_slice())?;
+    put_labelled(out, b" type=", &Piece::Hex(note.event_type))?;
+    put_labelled(out, b" obj=", &Piece::Quoted(note.object.as_slice()))?;
+    put_labelled(out, b" by=", &Piece::Quoted(note.notifier.as_slice()))?;
+    put_labelled(out, b" class=", &Piece::Class(note.class))?;
+    put_time(out, &note.event_time, always)?;
+    put_list::<Numbers64>(out, b" corr=", note.correlated.as_slice())?;
+    put_labelled(out, b" text=", &Piece::Quoted(note.text.as_slice()))?;
+    put_list::<Pairs>(out, b" info=", note.info.as_slice())?;
     Ok(())
 }
 
 /// Adds what a security alarm tells.
 #[tactic(auto, unfolding(script_language::specs::Printing::body_text))]
 fn put_security(
-    alloc: Global,
     out: &mut Vec<u8>,
     cause: u16,
     severity: u16,
@@ -85,21 +74,20 @@ fn put_security(
     ensures { OnOk result (out.new.items ≡ out.old.items
         ++ body_text (Body.Security cause severity detector.now user.now provider.now)) }
 {
-    put_labelled(alloc, out, b" cause=", &Piece::Number(u64::from(cause)))?;
-    put_labelled(alloc, out, b" sev=", &Piece::Number(u64::from(severity)))?;
+    put_labelled(out, b" cause=", &Piece::Number(u64::from(cause)))?;
+    put_labelled(out, b" sev=", &Piece::Number(u64::from(severity)))?;
     put(out, b" detector=")?;
-    put_value(alloc, out, detector)?;
+    put_value(out, detector)?;
     put(out, b" user=")?;
-    put_value(alloc, out, user)?;
+    put_value(out, user)?;
     put(out, b" provider=")?;
-    put_value(alloc, out, provider)?;
+    put_value(out, provider)?;
     Ok(())
 }
 
 /// Adds a source and a list behind its word.
 #[tactic(auto, using(crate::proofs::Chain::chained, crate::proofs::Chain::chained_last))]
 fn put_source<E: Writable>(
-    alloc: Global,
     out: &mut Vec<u8>,
     source: u16,
     word: &[u8],
@@ -110,28 +98,27 @@ fn put_source<E: Writable>(
         ∷ [])) }
 {
     put(out, b" source=")?;
-    put_number(alloc, out, u64::from(source))?;
-    put_list::<E>(alloc, out, word, values)?;
+    put_number(out, u64::from(source))?;
+    put_list::<E>(out, word, values)?;
     Ok(())
 }
 
 /// Adds what a notification tells.
 #[tactic(auto, unfolding(script_language::specs::Printing::body_text))]
-fn put_body(alloc: Global, out: &mut Vec<u8>, body: &Body) -> Result<(), AllocError>
+fn put_body(out: &mut Vec<u8>, body: &Body) -> Result<(), AllocError>
     ensures { OnOk result (out.new.items ≡ out.old.items ++ body_text body.now) }
 {
     match body {
         Body::Objects { source, attrs } => {
-            put_source::<Pairs>(alloc, out, *source, b" attrs=", attrs.as_slice())
+            put_source::<Pairs>(out, *source, b" attrs=", attrs.as_slice())
         }
         Body::Attributes { source, changes } => {
-            put_source::<Changes>(alloc, out, *source, b" changes=", changes.as_slice())
+            put_source::<Changes>(out, *source, b" changes=", changes.as_slice())
         }
         Body::States { source, changes } => {
-            put_source::<StateChanges>(alloc, out, *source, b" changes=", changes.as_slice())
+            put_source::<StateChanges>(out, *source, b" changes=", changes.as_slice())
         }
         Body::Alarm { cause, severity } => put_pieces(
-            alloc,
             out,
             &[
                 Piece::Word(b" cause="),
@@ -146,44 +133,40 @@ fn put_body(alloc: Global, out: &mut Vec<u8>, body: &Body) -> Result<(), AllocEr
             detector,
             user,
             provider,
-        } => put_security(alloc, out, *cause, *severity, detector, user, provider),
+        } => put_security(out, *cause, *severity, detector, user, provider),
     }
 }
 
 /// Adds a notification as it is sent.
 #[tactic(auto, unfolding(script_language::specs::Printing::note_text), using(crate::proofs::Chain::chained, crate::proofs::Chain::chained_last))]
-pub(crate) fn put_note(
-    alloc: Global,
-    out: &mut Vec<u8>,
-    note: &Notification,
-) -> Result<(), AllocError>
+pub(crate) fn put_note(out: &mut Vec<u8>, note: &Notification) -> Result<(), AllocError>
     ensures { OnOk result (out.new.items ≡ out.old.items ++ note_text note.now) }
 {
     put_kind(out, &note.body)?;
-    put_heading(alloc, out, note, false)?;
-    put_body(alloc, out, &note.body)?;
+    put_heading(out, note, false)?;
+    put_body(out, &note.body)?;
     Ok(())
 }
 
-/// Adds a notification as it is shown.
+/// Adds the words of a notification as replies and callbacks show it: its type, its id, its time whatever it is, and the rest
+/// as in the line that sends it. On want of memory nothing is said of `out`.
 #[tactic(auto, unfolding(script_language::specs::Printing::shown_note_text), using(crate::proofs::Chain::chained, crate::proofs::Chain::chained_last))]
-fn put_shown_note(alloc: Global, out: &mut Vec<u8>, note: &Notification) -> Result<(), AllocError>
+pub fn put_shown_note(out: &mut Vec<u8>, note: &Notification) -> Result<(), AllocError>
     ensures { OnOk result (out.new.items ≡ out.old.items ++ shown_note_text note.now) }
 {
     put_kind(out, &note.body)?;
     put(out, b" id=")?;
-    put_number(alloc, out, note.id)?;
-    put_heading(alloc, out, note, true)?;
-    put_body(alloc, out, &note.body)?;
+    put_number(out, note.id)?;
+    put_heading(out, note, true)?;
+    put_body(out, &note.body)?;
     Ok(())
 }
 
-/// The words of a notification as replies and callbacks show it: its type, its id, its time whatever it is, and the rest as
-/// in the line that sends it.
+/// The words of a notification as replies and callbacks show it.
 pub fn print_note(alloc: Global, note: &Notification) -> Result<Vec<u8>, AllocError>
     ensures { IfOk result (λ words. words.items ≡ shown_note_text note.now) }
 {
     let mut out = Vec::new(alloc);
-    put_shown_note(alloc, &mut out, note)?;
+    put_shown_note(&mut out, note)?;
     Ok(out)
 }

@@ -8,7 +8,8 @@ ghost use Rattle.script_language.specs.Printing.{class_text};
 ghost use Rattle.script_printer.specs.Pieces.{piece_text};
 
 use ais_values::{ClassId, hex_digit};
-use std::alloc::{AllocError, Global};
+use itoa::Buffer;
+use std::alloc::AllocError;
 
 /// A piece of a line.
 #[derive(Clone, Copy)]
@@ -32,19 +33,19 @@ pub fn put(out: &mut Vec<u8>, bytes: &[u8]) -> Result<(), AllocError>
 }
 
 /// Adds a number in decimal. On want of memory nothing is said of `out`.
-pub fn put_number(alloc: Global, out: &mut Vec<u8>, number: u64) -> Result<(), AllocError>
+pub fn put_number(out: &mut Vec<u8>, number: u64) -> Result<(), AllocError>
     ensures { OnOk result (out.new.items ≡ out.old.items ++ decimal number) }
 {
-    let text = number.to_string(alloc)?;
-    put(out, text.as_bytes())
+    let mut buffer = Buffer::new();
+    put(out, buffer.format(number).as_bytes())
 }
 
 /// Adds a signed number in decimal. On want of memory nothing is said of `out`.
-pub fn put_signed(alloc: Global, out: &mut Vec<u8>, number: i64) -> Result<(), AllocError>
+pub fn put_signed(out: &mut Vec<u8>, number: i64) -> Result<(), AllocError>
     ensures { OnOk result (out.new.items ≡ out.old.items ++ signed_decimal number) }
 {
-    let text = number.to_string(alloc)?;
-    put(out, text.as_bytes())
+    let mut buffer = Buffer::new();
+    put(out, buffer.format(number).as_bytes())
 }
 
 /// The two hexadecimal digits of a byte.
@@ -102,43 +103,38 @@ pub fn put_quoted(out: &mut Vec<u8>, text: &[u8]) -> Result<(), AllocError>
 
 /// Adds a class.
 #[tactic(auto, using(crate::proofs::Chain::chained, crate::proofs::Chain::chained_last))]
-pub(crate) fn put_class(alloc: Global, out: &mut Vec<u8>, class: ClassId) -> Result<(), AllocError>
+pub(crate) fn put_class(out: &mut Vec<u8>, class: ClassId) -> Result<(), AllocError>
     ensures { OnOk result (out.new.items ≡ out.old.items ++ class_text class) }
 {
-    put_number(alloc, out, u64::from(class.vendor))?;
+    put_number(out, u64::from(class.vendor))?;
     put(out, b".")?;
-    put_number(alloc, out, u64::from(class.major))?;
+    put_number(out, u64::from(class.major))?;
     put(out, b".")?;
-    put_number(alloc, out, u64::from(class.minor))?;
+    put_number(out, u64::from(class.minor))?;
     Ok(())
 }
 
 /// Adds a piece.
-pub(crate) fn put_piece(alloc: Global, out: &mut Vec<u8>, piece: &Piece) -> Result<(), AllocError>
+pub(crate) fn put_piece(out: &mut Vec<u8>, piece: &Piece) -> Result<(), AllocError>
     ensures { OnOk result (out.new.items ≡ out.old.items ++ piece_text piece.now) }
 {
     match piece {
         Piece::Word(word) => put(out, word),
-        Piece::Number(number) => put_number(alloc, out, *number),
-        Piece::Signed(number) => put_signed(alloc, out, *number),
+        Piece::Number(number) => put_number(out, *number),
+        Piece::Signed(number) => put_signed(out, *number),
         Piece::Hex(number) => put_hex(out, *number),
         Piece::Quoted(text) => put_quoted(out, text),
-        Piece::Class(class) => put_class(alloc, out, *class),
+        Piece::Class(class) => put_class(out, *class),
     }
 }
 
 /// Adds a word and a piece.
 #[tactic(auto, using(crate::proofs::Chain::chained))]
-pub(crate) fn put_labelled(
-    alloc: Global,
-    out: &mut Vec<u8>,
-    word: &[u8],
-    piece: &Piece,
-) -> Result<(), AllocError>
+pub(crate) fn put_labelled(out: &mut Vec<u8>, word: &[u8], piece: &Piece) -> Result<(), AllocError>
     ensures { OnOk result (out.new.items ≡ out.old.items ++ (word.now ++ piece_text piece.now)) }
 {
     put(out, word)?;
-    put_piece(alloc, out, piece)?;
+    put_piece(out, piece)?;
     Ok(())
 }
 
@@ -150,7 +146,7 @@ pub trait Printable {
     ghost text: { Self → List ℕ };
 
     /// Adds the text. On want of memory nothing is said of `out`.
-    fn print(&self, alloc: Global, out: &mut Vec<u8>) -> Result<(), AllocError>
+    fn print(&self, out: &mut Vec<u8>) -> Result<(), AllocError>
         ensures { OnOk result (out.new.items ≡ out.old.items ++ text self.now) };
 }
 
@@ -159,32 +155,24 @@ impl Printable for Piece<'_> {
 
     ghost text = { piece_text };
 
-    fn print(&self, alloc: Global, out: &mut Vec<u8>) -> Result<(), AllocError> {
-        put_piece(alloc, out, self)
+    fn print(&self, out: &mut Vec<u8>) -> Result<(), AllocError> {
+        put_piece(out, self)
     }
 }
 
 /// Adds the texts of pieces, one behind the other. On want of memory nothing is said of `out`.
-pub fn put_all<P: Printable>(
-    alloc: Global,
-    out: &mut Vec<u8>,
-    pieces: &[P],
-) -> Result<(), AllocError>
+pub fn put_all<P: Printable>(out: &mut Vec<u8>, pieces: &[P]) -> Result<(), AllocError>
     ensures { OnOk result (out.new.items ≡ out.old.items ++ flat_map P.text pieces.now) }
 {
     for piece in pieces {
-        piece.print(alloc, out)?;
+        piece.print(out)?;
     }
     Ok(())
 }
 
 /// Adds pieces.
-pub(crate) fn put_pieces(
-    alloc: Global,
-    out: &mut Vec<u8>,
-    pieces: &[Piece],
-) -> Result<(), AllocError>
+pub(crate) fn put_pieces(out: &mut Vec<u8>, pieces: &[Piece]) -> Result<(), AllocError>
     ensures { OnOk result (out.new.items ≡ out.old.items ++ flat_map piece_text pieces.now) }
 {
-    put_all(alloc, out, pieces)
+    put_all(out, pieces)
 }

@@ -14,7 +14,7 @@ use crate::values::put_known_time;
 use ais_values::{ClassId, StreamKind, Text};
 use record_print::Header;
 use script_lines::WellOptions;
-use std::alloc::{AllocError, Global};
+use std::alloc::AllocError;
 use stream_config::{FullAction, StreamAttrs, StreamName, default_format};
 
 /// The word for what is done where a file is full.
@@ -29,7 +29,7 @@ fn full_word(action: FullAction) -> &'static [u8]
 }
 
 /// Adds a stream's name, as scripts spell it.
-pub fn put_stream(alloc: Global, out: &mut Vec<u8>, name: &StreamName) -> Result<(), AllocError>
+pub fn put_stream(out: &mut Vec<u8>, name: &StreamName) -> Result<(), AllocError>
     ensures { OnOk result (out.new.items ≡ out.old.items ++ stream_text name.now) }
 {
     match name {
@@ -37,7 +37,6 @@ pub fn put_stream(alloc: Global, out: &mut Vec<u8>, name: &StreamName) -> Result
         StreamName::Notification => put(out, b"notification"),
         StreamName::System => put(out, b"system"),
         StreamName::App { name } => put_pieces(
-            alloc,
             out,
             &[Piece::Word(b"app:"), Piece::Quoted(name.as_slice())],
         ),
@@ -61,38 +60,24 @@ fn put_format(out: &mut Vec<u8>, expr: &[u8]) -> Result<(), AllocError>
 
 /// Adds attributes behind the word of their first one.
 #[tactic(auto, unfolding(script_language::specs::Printing::attrs_text))]
-fn put_attrs(alloc: Global, out: &mut Vec<u8>, attrs: &StreamAttrs) -> Result<(), AllocError>
+fn put_attrs(out: &mut Vec<u8>, attrs: &StreamAttrs) -> Result<(), AllocError>
     ensures { OnOk result (out.new.items ≡ out.old.items ++ attrs_text attrs.now) }
 {
     put_quoted(out, attrs.file.as_slice())?;
-    put_labelled(alloc, out, b" path=", &Piece::Quoted(attrs.path.as_slice()))?;
-    put_labelled(alloc, out, b" max=", &Piece::Number(attrs.max_file))?;
-    put_labelled(
-        alloc,
-        out,
-        b" rec=",
-        &Piece::Number(u64::from(attrs.record_size)),
-    )?;
-    put_labelled(alloc, out, b" ha=", &Piece::Number(u64::from(attrs.ha)))?;
+    put_labelled(out, b" path=", &Piece::Quoted(attrs.path.as_slice()))?;
+    put_labelled(out, b" max=", &Piece::Number(attrs.max_file))?;
+    put_labelled(out, b" rec=", &Piece::Number(u64::from(attrs.record_size)))?;
+    put_labelled(out, b" ha=", &Piece::Number(u64::from(attrs.ha)))?;
     put(out, b" full=")?;
     put(out, full_word(attrs.action))?;
-    put_labelled(
-        alloc,
-        out,
-        b" rot=",
-        &Piece::Number(u64::from(attrs.rotated)),
-    )?;
+    put_labelled(out, b" rot=", &Piece::Number(u64::from(attrs.rotated)))?;
     put_format(out, attrs.expr.as_slice())?;
     Ok(())
 }
 
 /// Adds the attributes of a stream that is to be made, where it is.
 #[tactic(auto, using(crate::proofs::Chain::chained))]
-pub(crate) fn put_create(
-    alloc: Global,
-    out: &mut Vec<u8>,
-    create: &Option<StreamAttrs>,
-) -> Result<(), AllocError>
+pub(crate) fn put_create(out: &mut Vec<u8>, create: &Option<StreamAttrs>) -> Result<(), AllocError>
     ensures { OnOk result (out.new.items ≡ out.old.items
         ++ maybe_text (codes " create file=") attrs_text create.now) }
 {
@@ -100,14 +85,13 @@ pub(crate) fn put_create(
         return Ok(());
     };
     put(out, b" create file=")?;
-    put_attrs(alloc, out, attrs)?;
+    put_attrs(out, attrs)?;
     Ok(())
 }
 
 /// Adds the header of a notification's record.
 #[tactic(auto, unfolding(script_language::specs::Printing::header_text))]
 fn put_notified(
-    alloc: Global,
     out: &mut Vec<u8>,
     id: u64,
     event_type: u16,
@@ -119,22 +103,18 @@ fn put_notified(
     ensures { OnOk result (out.new.items ≡ out.old.items
         ++ header_text (headers.Ntf id event_type object.now notifier.now class event_time)) }
 {
-    put_labelled(alloc, out, b" ntfh id=", &Piece::Number(id))?;
-    put_labelled(alloc, out, b" type=", &Piece::Hex(event_type))?;
-    put_labelled(alloc, out, b" obj=", &Piece::Quoted(object))?;
-    put_labelled(alloc, out, b" by=", &Piece::Quoted(notifier))?;
-    put_labelled(alloc, out, b" class=", &Piece::Class(class))?;
-    put_known_time(alloc, out, b" evtime=", event_time)?;
+    put_labelled(out, b" ntfh id=", &Piece::Number(id))?;
+    put_labelled(out, b" type=", &Piece::Hex(event_type))?;
+    put_labelled(out, b" obj=", &Piece::Quoted(object))?;
+    put_labelled(out, b" by=", &Piece::Quoted(notifier))?;
+    put_labelled(out, b" class=", &Piece::Class(class))?;
+    put_known_time(out, b" evtime=", event_time)?;
     Ok(())
 }
 
 /// Adds the header of a record.
 #[tactic(auto, unfolding(script_language::specs::Printing::header_text))]
-pub(crate) fn put_header(
-    alloc: Global,
-    out: &mut Vec<u8>,
-    header: &Header,
-) -> Result<(), AllocError>
+pub(crate) fn put_header(out: &mut Vec<u8>, header: &Header) -> Result<(), AllocError>
     ensures { OnOk result (out.new.items ≡ out.old.items ++ header_text header.now) }
 {
     match header {
@@ -143,7 +123,6 @@ pub(crate) fn put_header(
             user,
             severity,
         } => put_pieces(
-            alloc,
             out,
             &[
                 Piece::Word(b" gen sev="),
@@ -162,7 +141,6 @@ pub(crate) fn put_header(
             class,
             event_time,
         } => put_notified(
-            alloc,
             out,
             *id,
             *event_type,
@@ -176,7 +154,6 @@ pub(crate) fn put_header(
 
 /// Adds the stream's word, the option's and a piece.
 fn put_option(
-    alloc: Global,
     out: &mut Vec<u8>,
     stream: &[u8],
     option: &[u8],
@@ -187,13 +164,12 @@ fn put_option(
 {
     put(out, stream)?;
     put(out, option)?;
-    put_piece(alloc, out, piece)?;
+    put_piece(out, piece)?;
     Ok(())
 }
 
 /// Adds the option with its words, where it is given.
 fn put_option_number(
-    alloc: Global,
     out: &mut Vec<u8>,
     stream: &[u8],
     option: &[u8],
@@ -203,14 +179,13 @@ fn put_option_number(
         ++ maybe_text (stream.now ++ option.now) decimal given) }
 {
     match given {
-        Some(value) => put_option(alloc, out, stream, option, &Piece::Number(value)),
+        Some(value) => put_option(out, stream, option, &Piece::Number(value)),
         None => Ok(()),
     }
 }
 
 /// Adds the option with its words, where it is given.
 fn put_option_number32(
-    alloc: Global,
     out: &mut Vec<u8>,
     stream: &[u8],
     option: &[u8],
@@ -220,14 +195,13 @@ fn put_option_number32(
         ++ maybe_text (stream.now ++ option.now) decimal given) }
 {
     match given {
-        Some(value) => put_option(alloc, out, stream, option, &Piece::Number(u64::from(value))),
+        Some(value) => put_option(out, stream, option, &Piece::Number(u64::from(value))),
         None => Ok(()),
     }
 }
 
 /// Adds the option with its words, where it is given.
 fn put_option_text(
-    alloc: Global,
     out: &mut Vec<u8>,
     stream: &[u8],
     option: &[u8],
@@ -237,14 +211,13 @@ fn put_option_text(
         ++ maybe_text (stream.now ++ option.now) quoted_text given.now) }
 {
     match given {
-        Some(value) => put_option(alloc, out, stream, option, &Piece::Quoted(value.as_slice())),
+        Some(value) => put_option(out, stream, option, &Piece::Quoted(value.as_slice())),
         None => Ok(()),
     }
 }
 
 /// Adds the option with its words, where it is given.
 fn put_option_full(
-    alloc: Global,
     out: &mut Vec<u8>,
     stream: &[u8],
     option: &[u8],
@@ -254,7 +227,7 @@ fn put_option_full(
         ++ maybe_text (stream.now ++ option.now) full_action_text given) }
 {
     match given {
-        Some(value) => put_option(alloc, out, stream, option, &Piece::Word(full_word(value))),
+        Some(value) => put_option(out, stream, option, &Piece::Word(full_word(value))),
         None => Ok(()),
     }
 }
@@ -262,17 +235,16 @@ fn put_option_full(
 /// Adds what a cluster line says of a stream, which has this word.
 #[tactic(auto, unfolding(script_language::specs::Printing::options_text), using(crate::proofs::Chain::chained, crate::proofs::Chain::chained_last))]
 pub(crate) fn put_options(
-    alloc: Global,
     out: &mut Vec<u8>,
     stream: &[u8],
     options: &WellOptions,
 ) -> Result<(), AllocError>
     ensures { OnOk result (out.new.items ≡ out.old.items ++ options_text stream.now options.now) }
 {
-    put_option_text(alloc, out, stream, b"fmt=", &options.fmt)?;
-    put_option_number32(alloc, out, stream, b"rec=", options.rec)?;
-    put_option_number(alloc, out, stream, b"max=", options.max)?;
-    put_option_full(alloc, out, stream, b"full=", options.full)?;
-    put_option_number32(alloc, out, stream, b"rot=", options.rot)?;
+    put_option_text(out, stream, b"fmt=", &options.fmt)?;
+    put_option_number32(out, stream, b"rec=", options.rec)?;
+    put_option_number(out, stream, b"max=", options.max)?;
+    put_option_full(out, stream, b"full=", options.full)?;
+    put_option_number32(out, stream, b"rot=", options.rot)?;
     Ok(())
 }

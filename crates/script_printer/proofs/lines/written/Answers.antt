@@ -11,4 +11,4 @@ loop-line-preserved c =
     flat_step (λ line. line_text line ++ 10 ∷ []) (take i lines) (take (i + 1) lines) c.line-item.result [] c.loop-line.out.items c.put.new.out.items
     (take_more lines i c.line-item.result c.loop-line-test.true ∙ ap (λ x. take i lines ++ x ∷ []) (sym c.line-item.is))
     c.loop-line.invariant
-    (chained c.loop-line.out.items c.put_line.new.out.items c.put.new.out.items _ _ c.in_ok-put_line.ensures c.in_ok-put.ensures)
+    (chained c.loop-line.out.items c.put_script_line.new.out.items c.put.new.out.items _ _ c.in_ok-put_script_line.ensures c.in_ok-put.ensures)
