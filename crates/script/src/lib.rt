@@ -18,6 +18,6 @@ mod values;
 
 pub use numbers::whole_number;
 pub use options::well_attrs;
-pub use reader::{count_lines, parse_script};
+pub use reader::{count_lines, first_line, parse_script};
 pub use script_lines::{Line, ScriptAnswer, ScriptWhy, Server, WellOptions};
 pub use script_printer::{print_line, print_note, print_script};

@@ -19,8 +19,8 @@ fn line_length(bytes: &[u8]) -> usize
     bytes.iter().take_while(|byte| **byte != b'\n').count()
 }
 
-/// The first line, and the bytes behind it.
-fn first_line(bytes: &[u8]) -> (&[u8], &[u8])
+/// The first line of some bytes, of which there are some, without its LF; and the bytes behind it. It takes no memory.
+pub fn first_line(bytes: &[u8]) -> (&[u8], &[u8])
     requires { 0 < length bytes.now }
     ensures lines { raw_lines bytes.now ≡ result.0.now ∷ raw_lines result.1.now }
     ensures shorter { length result.1.now < length bytes.now }
