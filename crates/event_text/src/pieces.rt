@@ -16,6 +16,9 @@ use std::alloc::{AllocError, Global};
 use stream_config::StreamName;
 use wire::WireWhy;
 
+/// Room that most lines need no more than.
+const ROOM: usize = 64;
+
 /// A piece of a line.
 #[derive(Clone, Copy)]
 pub(crate) enum Piece<'a> {
@@ -173,7 +176,7 @@ pub(crate) fn put_line(
         ∷ []) }
     ensures err { OnErr result (lines.new.items ≡ lines.old.items) }
 {
-    let mut text = Vec::new(alloc);
+    let mut text = Vec::with_capacity(alloc, ROOM)?;
     put_all(&mut text, pieces)?;
     lines.push(Seq::from_vec(text))?;
     Ok(())
