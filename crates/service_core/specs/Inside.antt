@@ -17,7 +17,7 @@ abbrev pub kept_table : Kept → ServiceTable
 kept_table kept = table_with_parts kept.parts.number kept.parts kept.callers.items
 
 abbrev pub saved_inside : Inside → Saved
-saved_inside inside = saved_table (kept_table inside.kept)
+saved_inside inside = saved_table (kept_table inside.whole.value.kept)
 
 -- the value of what is kept is fit
 abbrev pub HasFitValue : Kept → Type 0
@@ -29,7 +29,7 @@ pub record IsKeptAs (kept : ServiceTable) (cap : ℕ) : Type 0 where
   pub capacity : cap ≡ kept.ntf.capacity
 
 abbrev pub IsKept : Inside → Type 0
-IsKept inside = IsKeptAs (kept_table inside.kept) inside.cap
+IsKept inside = IsKeptAs (kept_table inside.whole.value.kept) inside.whole.value.cap
 
 -- a call was applied
 pub record HasApplied (old : ServiceTable) (client seq : ℕ) (moment : ℤ) (call : Call) (new : ServiceTable) (effect : Effect) : Type 0 where

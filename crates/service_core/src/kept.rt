@@ -8,3 +8,11 @@ pub(crate) struct Kept {
     pub(crate) parts: Parts,
     pub(crate) callers: Vec<ClientWindow>,
 }
+
+/// All that a service has, which stands by itself in memory.
+#[derive(Drop)]
+pub(crate) struct Whole {
+    pub(crate) kept: Kept,
+    /// How many items a subscription holds.
+    pub(crate) cap: u32,
+}

@@ -10,16 +10,17 @@ ghost use Rattle.plain_service.specs.Legal.{IsClient, CanFollow, IsHistory};
 ghost use Rattle.plain_service.specs.Values.{StandsFor};
 ghost use Rattle.plain_service.specs.Items.{items_of, is_new_receipt};
 ghost use Rattle.plain_service.specs.Fitness.{IsFit};
+ghost use Rattle.service_table.specs.Tables.{saved_table};
 ghost use Rattle.service_table.specs.Steps.{window_for, after_receipt_in};
 ghost use Rattle.ntf_history.specs.Tables.{HaveQueues, is_new_in as is_new_for_table};
 ghost use Rattle.service_core.specs.Applying.{CanApply, next_in, is_new_in};
 ghost use Rattle.service_core.specs.Beginning.{BeginsAs, CanBeginAs, HasBegun};
 ghost use Rattle.service_core.specs.Following.{HasFollowed};
 ghost use Rattle.service_core.specs.Valuing.{window_in, items_held, Applies};
-ghost use Rattle.service_core.specs.Inside.{kept_table, HasFitValue, HasApplied};
+ghost use Rattle.service_core.specs.Inside.{kept_table, HasFitValue, HasApplied, IsKeptAs};
 
 use crate::acting::act;
-use crate::kept::Kept;
+use crate::kept::{Kept, Whole};
 use crate::parts::Parts;
 use crate::{Effect, RestoreAnswer, holding, opening, restoring, saving};
 use ais_values::Seq;
@@ -32,12 +33,11 @@ use std::marker::Model;
 use stream_config::StreamAttrs;
 use stream_layout::Deed;
 
-/// The whole service. Contracts see the value that it can hand on.
+/// The whole service. Contracts see the value that it can hand on. All that it has stands by itself in memory, so a service is
+/// small where it is moved.
 #[derive(Drop)]
 pub struct Service {
-    kept: Kept,
-    /// How many items a subscription holds.
-    cap: u32,
+    whole: Box<Whole>,
 }
 
 impl Model for Service {
@@ -118,6 +118,25 @@ fn apply_receipt(kept: &mut Kept, alloc: Global, client: u16, key: u32, through:
     }
 }
 
+/// The service that has this.
+fn service_of(alloc: Global, kept: Kept, cap: u32) -> Result<Service, AllocError>
+    requires { IsKeptAs (kept_table kept) cap }
+    ensures { IfOk result (λ service. service ≡ saved_table (kept_table kept)) }
+{
+    let whole = Box::new(alloc, Whole { kept, cap })?;
+    Ok(Service { whole })
+}
+
+/// The service of a fit value.
+fn restored_service(alloc: Global, saved: &Saved) -> Result<Service, AllocError>
+    requires { IsFit saved.now }
+    ensures { IfOk result (λ service. service ≡ saved.now) }
+{
+    let kept = restoring::restored(alloc, saved)?;
+    let service = service_of(alloc, kept, saved.capacity)?;
+    Ok(service)
+}
+
 impl Service {
     /// A service that nobody has used. It begins at a time from 0 to 9,000,000,000,000,000,000, each of its subscriptions
     /// holds at most `cap` items, 1 to 256, and `wells` are the attributes of the alarm, the notification and the system stream:
@@ -134,7 +153,8 @@ impl Service {
             HasBegun setup made) }
     {
         let (kept, deeds) = opening::opened(alloc, start, cap, wells)?;
-        Ok((Service { kept, cap }, deeds))
+        let service = service_of(alloc, kept, cap)?;
+        Ok((service, deeds))
     }
 
     /// The service of a value: with it each further entry is answered as by the service that handed the value on, and
@@ -147,11 +167,8 @@ impl Service {
         if !is_fit(saved) {
             return Err(RestoreAnswer::Refused);
         }
-        match restoring::restored(alloc, saved) {
-            Ok(kept) => Ok(Service {
-                kept,
-                cap: saved.capacity,
-            }),
+        match restored_service(alloc, saved) {
+            Ok(service) => Ok(service),
             Err(_) => Err(RestoreAnswer::Memory),
         }
     }
@@ -161,7 +178,7 @@ impl Service {
         ensures value { IfOk result (λ saved. saved ≡ self.now) }
         ensures fit { IfOk result IsFit }
     {
-        let saved = saving::saved(alloc, &self.kept, self.cap)?;
+        let saved = saving::saved(alloc, &self.whole.kept, self.whole.cap)?;
         Ok(saved)
     }
 
@@ -172,8 +189,8 @@ impl Service {
         ensures history { IfOk result (λ items. (setup : Setup) (past : List Entry) →
             StandsFor setup past self.now → items ≡ items_of setup past) }
     {
-        show_sound(&self.kept.parts);
-        let items = holding::items_of(alloc, &self.kept.parts.ntf)?;
+        show_sound(&self.whole.kept.parts);
+        let items = holding::items_of(alloc, &self.whole.kept.parts.ntf)?;
         Ok(items)
     }
 
@@ -181,7 +198,7 @@ impl Service {
     pub fn next(&self, client: u16) -> u32
         ensures { result ≡ next_in self.now client }
     {
-        next_call(self.kept.callers.as_slice(), client)
+        next_call(self.whole.kept.callers.as_slice(), client)
     }
 
     /// What the call of this number of a client is, by all replies that the client was ever given: any that leave the
@@ -193,8 +210,8 @@ impl Service {
             → StandsFor setup past self.now →
             IsJudged seq (replies_to setup client past) result }
     {
-        show_sound(&self.kept.parts);
-        judge_call(self.kept.callers.as_slice(), client, seq)
+        show_sound(&self.whole.kept.parts);
+        judge_call(self.whole.kept.callers.as_slice(), client, seq)
     }
 
     /// Whether a receipt is new: the subscription of this client and key lasts, and holds an item of this number. By
@@ -205,15 +222,15 @@ impl Service {
         ensures history { (setup : Setup) (past : List Entry) → StandsFor setup past self.now
             → result ≡ is_new_receipt setup past client key through }
     {
-        show_sound(&self.kept.parts);
-        self.kept.parts.ntf.is_new(client, key, through)
+        show_sound(&self.whole.kept.parts);
+        self.whole.kept.parts.ntf.is_new(client, key, through)
     }
 
     /// How many entries were accepted. It takes no memory.
     pub fn number(&self) -> u64
         ensures { result ≡ self.now.number }
     {
-        self.kept.parts.number
+        self.whole.kept.parts.number
     }
 
     /// Applies an entry: a call that has the number of its client's next one, or a new receipt, of a client from 1 to
@@ -228,7 +245,7 @@ impl Service {
             HasFollowed setup past entry.now self.new effect) }
         ensures err { OnErr result (self.new ≡ self.old) }
     {
-        show_sound(&self.kept.parts);
+        show_sound(&self.whole.kept.parts);
         match entry {
             Entry::Called {
                 client,
@@ -236,7 +253,7 @@ impl Service {
                 time,
                 call,
             } => {
-                let effect = apply_call(&mut self.kept, alloc, *client, *seq, *time, call)?;
+                let effect = apply_call(&mut self.whole.kept, alloc, *client, *seq, *time, call)?;
                 Ok(effect)
             }
             Entry::Receipted {
@@ -244,7 +261,7 @@ impl Service {
                 key,
                 through,
                 time: _,
-            } => Ok(apply_receipt(&mut self.kept, alloc, *client, *key, *through)),
+            } => Ok(apply_receipt(&mut self.whole.kept, alloc, *client, *key, *through)),
         }
     }
 }
