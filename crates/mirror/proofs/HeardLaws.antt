@@ -1,5 +1,5 @@
 -- What the active server makes of a message, by what ties it to its partner.
-use Rattle.std.proofs.Common.{◌≡◌, ℕ, suc, List, length, refl, sym, subst}
+use Rattle.std.proofs.Common.{◌≡◌, suc, List, length, refl, sym, subst}
 use Rattle.std.specs.Prelude.{ℤ, Option, Some, None, Result, Ok, Err, IfOk}
 use Rattle.calls.specs.declared.entry.Entry.{Entry}
 use Rattle.calls.specs.declared.saved.Saved.{Saved}

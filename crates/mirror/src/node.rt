@@ -1,5 +1,5 @@
 //! A server of a pair: one is active, and the other follows it and takes over where it goes down.
-ghost use Rattle.std.specs.Prelude.{◌≡◌, ◌↔◌, IsTrue, IsSome, Some, None, List, [], ◌∷◌, is_some, option_copied, IfOk, OnErr, IsErrOf};
+ghost use Rattle.std.specs.Prelude.{◌≡◌, ◌↔◌, IsTrue, IsSome, None, List, [], ◌∷◌, is_some, option_copied, IfOk, OnOk, OnErr, IsErrOf};
 ghost use Rattle.ais_values.specs.Causes.{RoseExactlyOn};
 ghost use Rattle.disk_model.specs.DeviceCalls.{Performs};
 ghost use Rattle.disk_model.specs.declared.answers.DiskAnswer.{DiskAnswer};
@@ -15,10 +15,12 @@ ghost use Rattle.mirror.specs.Replicas.{HasService, HasRoom, down, started, numb
 ghost use Rattle.mirror.specs.Hearing.{CanHear};
 ghost use Rattle.mirror.specs.ByValue.{items_pushed};
 ghost use Rattle.mirror.specs.Working.{deeds_in, replies_in, worked};
-ghost use Rattle.mirror.specs.Pairing.{alone, joining, sent, IsJoinBegun, parted, worked_out, with_peer, deeds_kept, keeps_deeds, taken_over, confirmed, IsHeard, IsReceived, IsNextEntry, CanReceive, Admits};
+ghost use Rattle.mirror.specs.Pairing.{alone, joining, sent, IsJoinBegun, parted, worked_out, with_peer, deeds_kept, keeps_deeds, taken_over, confirmed, IsHeard, IsFollowed, IsReceived, IsNextEntry, CanApplyIn, CanReceive, Admits};
+ghost use Rattle.mirror.specs.InsideNode.{state_in, IsOpen};
 
 use crate::hearing::ignore;
-use crate::pairing::{one, restored, send};
+use crate::pairing::{has_room, is_next, one, restored, send};
+use crate::parts::push_items;
 use crate::state::NodeState;
 use crate::{Heard, Outcome, Role, Why};
 use ais_values::Seq;
@@ -49,13 +51,16 @@ enum Server {
     Down,
     /// Nothing: it waits for the value of the service.
     Joining,
+    /// A service alone: it has just begun with it.
+    Fresh { role: Role, service: Service },
     /// All that one with a service has.
     Serving { state: Box<NodeState> },
 }
 
 /// A server of a pair: its replica of the service; the entry in hand while it waits until the partner has it; what ties it to
 /// its partner; the messages that the partner is promised; and the deeds of the last entry that it applied as standby, where it
-/// applied one since it started or joined. All this stands by itself in memory, so a server is small where it is moved.
+/// applied one since it started or joined. All this stands by itself in memory, so a server is small where it is moved; room for
+/// it is made by the first call that may need it, so a server begins without memory.
 #[derive(Drop)]
 pub struct Node {
     server: Server,
@@ -71,20 +76,42 @@ impl Model for Node {
     ghost view = { state_of };
 }
 
+// Makes room for all that a server with a service may have. What the server has stays.
+fn open(server: &mut Server, alloc: Global) -> Result<(), AllocError>
+    ensures stays { state_in server.new ≡ state_in server.old }
+    ensures open { OnOk result (IsOpen server.new) }
+{
+    match server {
+        Server::Down => Ok(()),
+        Server::Joining => Ok(()),
+        Server::Fresh { .. } => {
+            let mut state = Box::new(alloc, NodeState::down(alloc))?;
+            let Server::Fresh { role, service } = replace(server, Server::Down) else {
+                unreachable!()
+            };
+            let before = replace(&mut *state, NodeState::start(alloc, role, service));
+            drop(before);
+            drop(replace(server, Server::Serving { state }));
+            Ok(())
+        }
+        Server::Serving { .. } => Ok(()),
+    }
+}
+
 impl Node {
-    /// A server that begins with a service, as the active one or as standby, without link and with nothing in hand. `Err` comes only
-    /// for want of memory.
-    pub fn start(alloc: Global, role: Role, service: Service) -> Result<Node, AllocError>
+    /// A server that begins with a service, as the active one or as standby, without link and with nothing in hand. It takes no
+    /// memory.
+    pub fn start(alloc: Global, role: Role, service: Service) -> Node
         requires { HasService role }
-        ensures { IfOk result (λ node. node ≡ alone (started role service)) }
+        ensures { result ≡ alone (started role service) }
     {
-        let state = Box::new(alloc, NodeState::start(alloc, role, service))?;
-        Ok(Node {
-            server: Server::Serving { state },
-        })
+        let _ = alloc;
+        Node {
+            server: Server::Fresh { role, service },
+        }
     }
 
-    /// A server that waits for the value of the service.
+    /// A server that waits for the value of the service. It takes no memory.
     pub fn joining(alloc: Global) -> Node
         ensures { result ≡ alone joining }
     {
@@ -94,11 +121,10 @@ impl Node {
         }
     }
 
-    /// A server that is down.
-    pub fn down(alloc: Global) -> Node
+    /// A server that is down. It takes no memory.
+    pub fn down() -> Node
         ensures { result ≡ alone down }
     {
-        let _ = alloc;
         Node {
             server: Server::Down,
         }
@@ -111,7 +137,8 @@ impl Node {
         match &self.server {
             Server::Down => Role::Down,
             Server::Joining => Role::Joining,
-            Server::Serving { state } => state.role(),
+            Server::Fresh { role, .. } => *role,
+            Server::Serving { state } => state.replica.role(),
         }
     }
 
@@ -123,7 +150,11 @@ impl Node {
         match &self.server {
             Server::Down => false,
             Server::Joining => false,
-            Server::Serving { state } => state.keeps(),
+            Server::Fresh { .. } => false,
+            Server::Serving { state } => match state.replica.role() {
+                Role::Standby => state.kept.is_some(),
+                _ => false,
+            },
         }
     }
 
@@ -134,7 +165,8 @@ impl Node {
         match &self.server {
             Server::Down => true,
             Server::Joining => true,
-            Server::Serving { state } => state.has_room(),
+            Server::Fresh { service, .. } => has_room(service),
+            Server::Serving { state } => state.replica.has_room(),
         }
     }
 
@@ -147,7 +179,8 @@ impl Node {
         match &self.server {
             Server::Down => None,
             Server::Joining => None,
-            Server::Serving { state } => state.in_hand(),
+            Server::Fresh { .. } => None,
+            Server::Serving { state } => state.replica.in_hand(),
         }
     }
 
@@ -158,7 +191,8 @@ impl Node {
         match &self.server {
             Server::Down => false,
             Server::Joining => false,
-            Server::Serving { state } => state.ready(),
+            Server::Fresh { .. } => false,
+            Server::Serving { state } => state.replica.ready() && state.waits.is_none(),
         }
     }
 
@@ -169,7 +203,8 @@ impl Node {
         match &self.server {
             Server::Down => None,
             Server::Joining => None,
-            Server::Serving { state } => state.waiting(),
+            Server::Fresh { .. } => None,
+            Server::Serving { state } => state.waits.as_ref(),
         }
     }
 
@@ -181,7 +216,8 @@ impl Node {
         match &mut self.server {
             Server::Down => None,
             Server::Joining => None,
-            Server::Serving { state } => state.take_waiting(),
+            Server::Fresh { .. } => None,
+            Server::Serving { state } => state.waits.take(),
         }
     }
 
@@ -193,9 +229,11 @@ impl Node {
             IsJoinBegun (is_some self.old.replica.owed) self.old heard self.new) }
         ensures err { OnErr result (self.new ≡ self.old) }
     {
+        open(&mut self.server, alloc)?;
         match &mut self.server {
             Server::Down => unreachable!(),
             Server::Joining => unreachable!(),
+            Server::Fresh { .. } => unreachable!(),
             Server::Serving { state } => state.begin_join(alloc),
         }
     }
@@ -210,6 +248,7 @@ impl Node {
         match &mut self.server {
             Server::Down => unreachable!(),
             Server::Joining => unreachable!(),
+            Server::Fresh { .. } => send(alloc, Seq::new(alloc), None, Outcome::Changed),
             Server::Serving { state } => state.peer_down(alloc),
         }
     }
@@ -242,6 +281,7 @@ impl Node {
         match &mut self.server {
             Server::Down => unreachable!(),
             Server::Joining => unreachable!(),
+            Server::Fresh { .. } => unreachable!(),
             Server::Serving { state } => state.work(alloc, disk),
         }
     }
@@ -275,6 +315,10 @@ impl Node {
         match &mut self.server {
             Server::Down => unreachable!(),
             Server::Joining => unreachable!(),
+            Server::Fresh { role, .. } => {
+                *role = Role::Active;
+                Ok(send(alloc, Seq::new(alloc), None, Outcome::Changed))
+            }
             Server::Serving { state } => state.takeover(alloc, disk),
         }
     }
@@ -292,7 +336,11 @@ impl Node {
         match &self.server {
             Server::Down => unreachable!(),
             Server::Joining => unreachable!(),
-            Server::Serving { state } => state.push(alloc),
+            Server::Fresh { service, .. } => {
+                let messages = push_items(service, alloc)?;
+                Ok(messages)
+            }
+            Server::Serving { state } => state.replica.push(alloc),
         }
     }
 
@@ -306,9 +354,11 @@ impl Node {
         ensures ok { IfOk result (λ heard. IsHeard message.now now self.old heard self.new) }
         ensures err { OnErr result (self.new ≡ self.old) }
     {
+        open(&mut self.server, alloc)?;
         match &mut self.server {
             Server::Down => unreachable!(),
             Server::Joining => unreachable!(),
+            Server::Fresh { .. } => unreachable!(),
             Server::Serving { state } => state.hear(alloc, message, now),
         }
     }
@@ -324,7 +374,7 @@ impl Node {
         let number = saved.number;
         let to_peer = one(alloc, Message::JoinAck { number })?;
         let service = restored(alloc, saved)?;
-        let node = Node::start(alloc, Role::Standby, service)?;
+        let node = Node::start(alloc, Role::Standby, service);
         drop(replace(self, node));
         Ok(send(alloc, to_peer, None, Outcome::Joined))
     }
@@ -343,10 +393,31 @@ impl Node {
             IsReceived role.Active message.now now self.old heard self.new) }
         ensures err { OnErr result (self.new ≡ self.old) }
     {
+        match message {
+            Message::Request { .. } => self.hear(alloc, message, now),
+            Message::Receipt { .. } => self.hear(alloc, message, now),
+            Message::MirrorAck { .. } => {
+                drop(self.take_waiting());
+                Ok(send(alloc, Seq::new(alloc), None, Outcome::Confirmed))
+            }
+            Message::JoinAck { .. } => { Ok(send(alloc, Seq::new(alloc), None, Outcome::Joined)) }
+            _ => Ok(ignore(alloc, Why::NotForRole { role: Role::Active })),
+        }
+    }
+
+    // The standby applies an entry and keeps its deeds. On an error nothing changes.
+    fn follow(&mut self, alloc: Global, number: u64, entry: &Entry) -> Result<Heard, AllocError>
+        requires can { CanApplyIn entry.now self.old.replica.service }
+        requires role { self.old.replica.role ≡ role.Standby }
+        ensures ok { IfOk result (λ heard. IsFollowed number entry.now self.old heard self.new) }
+        ensures err { OnErr result (self.new ≡ self.old) }
+    {
+        open(&mut self.server, alloc)?;
         match &mut self.server {
             Server::Down => unreachable!(),
             Server::Joining => unreachable!(),
-            Server::Serving { state } => state.receive_active(alloc, message, now),
+            Server::Fresh { .. } => unreachable!(),
+            Server::Serving { state } => state.follow(alloc, number, entry),
         }
     }
 
@@ -363,10 +434,15 @@ impl Node {
             IsReceived role.Standby message.now now self.old heard self.new) }
         ensures err { OnErr result (self.new ≡ self.old) }
     {
-        match &mut self.server {
-            Server::Down => unreachable!(),
-            Server::Joining => unreachable!(),
-            Server::Serving { state } => state.receive_standby(alloc, message, now),
+        let _ = now;
+        match message {
+            Message::Mirror { number, entry } => self.follow(alloc, *number, entry),
+            _ => Ok(ignore(
+                alloc,
+                Why::NotForRole {
+                    role: Role::Standby,
+                },
+            )),
         }
     }
 
@@ -401,7 +477,8 @@ impl Node {
         match &self.server {
             Server::Down => false,
             Server::Joining => false,
-            Server::Serving { state } => state.follows(number, entry),
+            Server::Fresh { service, .. } => is_next(service, number, entry),
+            Server::Serving { state } => state.replica.follows(number, entry),
         }
     }
 

@@ -15,7 +15,7 @@ ghost use Rattle.service_core.specs.Valuing.{value_after, deeds_by_value};
 ghost use Rattle.mirror.specs.declared.heard.Why.TheVariants.{Busy};
 ghost use Rattle.mirror.specs.Replicas.{HasRoom, at_rest, at_work};
 ghost use Rattle.mirror.specs.Hearing.{CanHear, ignored};
-ghost use Rattle.mirror.specs.Pairing.{sent, with_peer, tied_after, mirrors, newest, IsMirrored, IsMirroredByValue};
+ghost use Rattle.mirror.specs.Pairing.{sent, with_peer, tied_after, mirrors, newest, IsNextEntry, IsMirrored, IsMirroredByValue};
 ghost use Rattle.mirror.specs.ByValue.{serving};
 ghost use Rattle.mirror.specs.Preparing.{entry_by, held_back};
 
@@ -99,6 +99,16 @@ pub(crate) fn restored(alloc: Global, saved: &Saved) -> Result<Service, AllocErr
     }
 }
 
+/// How many entries a service accepts.
+const MOST: u64 = 4_000_000_000;
+
+/// Whether a service can accept a further entry.
+pub(crate) fn has_room(service: &Service) -> bool
+    ensures { IsTrue result ↔ HasRoom (Some service.now) }
+{
+    service.number() < MOST
+}
+
 /// Whether a further entry of a client can be accepted at a moment.
 fn can_accept(service: &Service, client: u16, time: i64) -> bool
     ensures { IsTrue result ↔ CanAcceptIn service.now client time }
@@ -111,7 +121,7 @@ fn can_accept(service: &Service, client: u16, time: i64) -> bool
 }
 
 /// Whether an entry can be applied.
-pub(crate) fn can_apply(service: &Service, entry: &Entry) -> bool
+fn can_apply(service: &Service, entry: &Entry) -> bool
     ensures { IsTrue result ↔ CanApply entry.now service.now }
 {
     match entry {
@@ -128,6 +138,13 @@ pub(crate) fn can_apply(service: &Service, entry: &Entry) -> bool
             time,
         } => can_accept(service, *client, *time) && service.is_new(*client, *key, *through),
     }
+}
+
+/// Whether an entry of this number is the next one, and can be applied.
+pub(crate) fn is_next(service: &Service, number: u64, entry: &Entry) -> bool
+    ensures { IsTrue result ↔ IsNextEntry number entry.now (Some service.now) }
+{
+    service.number() < number && number - 1 == service.number() && can_apply(service, entry)
 }
 
 /// Applies an entry of the partner's, and gives its deeds. On an error nothing changes.

@@ -14,7 +14,7 @@ ghost use Rattle.service_laws.specs.PlainOf.{plain_of};
 ghost use Rattle.mirror.specs.declared.heard.Role.TheVariants.{Active, Standby};
 ghost use Rattle.mirror.specs.declared.owed.Owed.{Owed as OwedOf};
 ghost use Rattle.mirror.specs.declared.heard.Why.TheVariants.{Busy, NotForRole};
-ghost use Rattle.mirror.specs.Replicas.{HasService, HasRoom, down, started, number_of, number_in_hand, at_rest, at_work};
+ghost use Rattle.mirror.specs.Replicas.{HasRoom, down, started, number_of, number_in_hand, at_rest, at_work};
 ghost use Rattle.mirror.specs.Hearing.{CanHear, IsHeardAtRest, ignored};
 ghost use Rattle.mirror.specs.ByValue.{serving, IsHeardByValue, items_pushed};
 ghost use Rattle.mirror.specs.Working.{deeds_in, replies_in, worked, emptied};
@@ -23,7 +23,7 @@ ghost use Rattle.mirror.specs.Preparing.{number_next, HasApplied, HasAppliedTo};
 
 use crate::hearing::ignore;
 use crate::owed::Owed;
-use crate::pairing::{apply_mirrored, can_apply, snapshot_of};
+use crate::pairing::{apply_mirrored, has_room, is_next, snapshot_of};
 use crate::parts::{do_deeds, hear_or_ignore, post_owed, push_items};
 use crate::{Heard, Role, Why};
 use ais_values::Seq;
@@ -35,9 +35,6 @@ use std::marker::Model;
 use std::mem::replace;
 use stream_layout::Deed;
 use wire::Message;
-
-/// How many entries a service accepts.
-const MOST: u64 = 4_000_000_000;
 
 /// A server by itself, whatever its partner is: its role, its replica of the service, where the role has one, and what
 /// the entry in hand asks for. Contracts see the service by the value that it can hand on.
@@ -85,7 +82,6 @@ impl Replica {
 
     /// A server that begins with a service, as the active one or as its partner, with nothing in hand.
     pub(crate) fn start(role: Role, service: Service) -> Replica
-        requires { HasService role }
         ensures { result ≡ started role service }
     {
         Replica {
@@ -118,7 +114,7 @@ impl Replica {
     {
         match &self.service {
             None => true,
-            Some(service) => service.number() < MOST,
+            Some(service) => has_room(service),
         }
     }
 
@@ -216,11 +212,7 @@ impl Replica {
     {
         match &self.service {
             None => false,
-            Some(service) => {
-                service.number() < number
-                    && number - 1 == service.number()
-                    && can_apply(service, entry)
-            }
+            Some(service) => is_next(service, number, entry),
         }
     }
 

@@ -1,25 +1,20 @@
 //! What a server of a pair has, and what it makes of messages and of work.
-ghost use Rattle.std.specs.Prelude.{◌≡◌, ◌↔◌, IsTrue, IsSome, Some, None, List, [], ◌∷◌, is_some, option_copied, IfOk, OnErr, IsErrOf};
+ghost use Rattle.std.specs.Prelude.{◌≡◌, IsSome, None, [], is_some, IfOk, OnErr, IsErrOf};
 ghost use Rattle.ais_values.specs.Causes.{RoseExactlyOn};
 ghost use Rattle.disk_model.specs.DeviceCalls.{Performs};
 ghost use Rattle.disk_model.specs.declared.answers.DiskAnswer.{DiskAnswer};
 ghost use Rattle.stream_layout.specs.Deeds.{calls_of_all};
-ghost use Rattle.calls.specs.declared.entry.Entry.{Entry as EntryOf};
-ghost use Rattle.plain_service.specs.Setups.{Setup};
-ghost use Rattle.service_laws.specs.PlainOf.{plain_of};
 ghost use Rattle.mirror.specs.declared.heard.Role.TheVariants as role;
 ghost use Rattle.mirror.specs.declared.heard.Outcome.TheVariants.{Changed};
-ghost use Rattle.mirror.specs.Replicas.{HasService, HasRoom, down, started, number_in_hand, at_rest};
+ghost use Rattle.mirror.specs.Replicas.{HasRoom, down, started};
 ghost use Rattle.mirror.specs.Hearing.{CanHear};
-ghost use Rattle.mirror.specs.ByValue.{items_pushed};
 ghost use Rattle.mirror.specs.Working.{deeds_in, replies_in, worked};
-ghost use Rattle.mirror.specs.Pairing.{alone, sent, IsJoinBegun, parted, confirmed, worked_out, with_peer, deeds_kept, keeps_deeds, taken_over, IsHeard, IsFollowed, IsReceived, IsNextEntry, CanApplyIn, CanReceive};
+ghost use Rattle.mirror.specs.Pairing.{alone, sent, IsJoinBegun, parted, worked_out, with_peer, deeds_kept, taken_over, IsHeard, IsFollowed, CanApplyIn};
 
-use crate::hearing::ignore;
 use crate::node::Tie;
 use crate::pairing::{hear_linked, link, one, send, send_also};
 use crate::replica::Replica;
-use crate::{Heard, Outcome, Role, Why};
+use crate::{Heard, Outcome, Role};
 use ais_values::{Duplicate, Seq};
 use calls::Entry;
 use disk_model::{DiskAnswer, SharedDisk};
@@ -73,7 +68,6 @@ fn perform_kept<D: SharedDisk>(disk: &mut D, kept: &Option<Seq<Deed>>) -> Result
 impl NodeState {
     /// As `Node::start`.
     pub(crate) fn start(alloc: Global, role: Role, service: Service) -> NodeState
-        requires { HasService role }
         ensures { result ≡ alone (started role service) }
     {
         alone(alloc, Replica::start(role, service))
@@ -84,67 +78,6 @@ impl NodeState {
         ensures { result ≡ alone down }
     {
         alone(alloc, Replica::down())
-    }
-
-    /// As `Node::role`.
-    pub(crate) fn role(&self) -> Role
-        ensures { result ≡ self.now.replica.role }
-    {
-        self.replica.role()
-    }
-
-    /// As `Node::keeps`.
-    pub(crate) fn keeps(&self) -> bool
-        ensures { result ≡ keeps_deeds self.now }
-    {
-        match self.role() {
-            Role::Standby => self.kept.is_some(),
-            _ => false,
-        }
-    }
-
-    /// As `Node::has_room`.
-    pub(crate) fn has_room(&self) -> bool
-        ensures { IsTrue result ↔ HasRoom self.now.replica.service }
-    {
-        self.replica.has_room()
-    }
-
-    /// As `Node::in_hand`.
-    pub(crate) fn in_hand(&self) -> Option<u64>
-        ensures number { result ≡ number_in_hand self.now.replica }
-        ensures none { result ≡ None → self.now.replica.owed ≡ None }
-    {
-        self.replica.in_hand()
-    }
-
-    /// As `Node::ready`.
-    pub(crate) fn ready(&self) -> bool
-        ensures { IsTrue result ↔ (IsSome self.now.replica.owed × (self.now.waits ≡ None)) }
-    {
-        self.replica.ready() && self.waits.is_none()
-    }
-
-    /// As `Node::waiting`.
-    pub(crate) fn waiting(&self) -> Option<&Entry>
-        ensures { option_copied result ≡ self.now.waits }
-    {
-        self.waits.as_ref()
-    }
-
-    /// As `Node::take_waiting`.
-    pub(crate) fn take_waiting(&mut self) -> Option<Entry>
-        ensures entry { result ≡ self.old.waits }
-        ensures now { self.new ≡ confirmed self.old }
-    {
-        self.waits.take()
-    }
-
-    /// Whether an entry of this number is the next one, and can be applied.
-    pub(crate) fn follows(&self, number: u64, entry: &Entry) -> bool
-        ensures { IsTrue result ↔ IsNextEntry number entry.now self.now.replica.service }
-    {
-        self.replica.follows(number, entry)
     }
 
     // Goes down; what it had is let go.
@@ -274,18 +207,6 @@ impl NodeState {
         }
     }
 
-    /// As `Node::push`.
-    pub(crate) fn push(&self, alloc: Global) -> Result<Seq<Message>, AllocError>
-        requires role { self.now.replica.role ≡ role.Active }
-        requires idle { self.now.replica.owed ≡ None }
-        ensures history { IfOk result (λ messages. (setup : Setup) (past : List EntryOf) →
-            self.now.replica ≡ at_rest setup past → messages ≡ (plain_of setup).held past) }
-        ensures value { IfOk result (λ messages.
-            messages ≡ items_pushed self.now.replica.service) }
-    {
-        self.replica.push(alloc)
-    }
-
     /// As `Node::hear`.
     pub(crate) fn hear(
         &mut self,
@@ -305,8 +226,13 @@ impl NodeState {
         }
     }
 
-    // The standby applies an entry and keeps its deeds. On an error nothing changes.
-    fn follow(&mut self, alloc: Global, number: u64, entry: &Entry) -> Result<Heard, AllocError>
+    /// As `Node::follow`.
+    pub(crate) fn follow(
+        &mut self,
+        alloc: Global,
+        number: u64,
+        entry: &Entry,
+    ) -> Result<Heard, AllocError>
         requires { CanApplyIn entry.now self.old.replica.service }
         ensures ok { IfOk result (λ heard. IsFollowed number entry.now self.old heard self.new) }
         ensures err { OnErr result (self.new ≡ self.old) }
@@ -322,55 +248,5 @@ impl NodeState {
         };
         self.kept = Some(deeds);
         Ok(send(alloc, to_peer, Some(committed), Outcome::Applied))
-    }
-
-    /// The active server hears a message. On an error nothing changes.
-    pub(crate) fn receive_active(
-        &mut self,
-        alloc: Global,
-        message: &Message,
-        now: i64,
-    ) -> Result<Heard, AllocError>
-        requires receive { CanReceive message.now now self.old }
-        requires few { HasRoom self.old.replica.service }
-        requires role { self.old.replica.role ≡ role.Active }
-        ensures ok { IfOk result (λ heard.
-            IsReceived role.Active message.now now self.old heard self.new) }
-        ensures err { OnErr result (self.new ≡ self.old) }
-    {
-        match message {
-            Message::Request { .. } => self.hear(alloc, message, now),
-            Message::Receipt { .. } => self.hear(alloc, message, now),
-            Message::MirrorAck { .. } => {
-                drop(self.take_waiting());
-                Ok(send(alloc, Seq::new(alloc), None, Outcome::Confirmed))
-            }
-            Message::JoinAck { .. } => { Ok(send(alloc, Seq::new(alloc), None, Outcome::Joined)) }
-            _ => Ok(ignore(alloc, Why::NotForRole { role: Role::Active })),
-        }
-    }
-
-    /// The standby hears a message. On an error nothing changes.
-    pub(crate) fn receive_standby(
-        &mut self,
-        alloc: Global,
-        message: &Message,
-        now: i64,
-    ) -> Result<Heard, AllocError>
-        requires { CanReceive message.now now self.old }
-        ensures ok { IfOk result (λ heard.
-            IsReceived role.Standby message.now now self.old heard self.new) }
-        ensures err { OnErr result (self.new ≡ self.old) }
-    {
-        let _ = now;
-        match message {
-            Message::Mirror { number, entry } => self.follow(alloc, *number, entry),
-            _ => Ok(ignore(
-                alloc,
-                Why::NotForRole {
-                    role: Role::Standby,
-                },
-            )),
-        }
     }
 }
