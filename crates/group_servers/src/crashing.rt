@@ -91,7 +91,7 @@ fn fall<const N: usize, D: SharedDisk>(
         lines.new.items (D.seen disk.old) (D.seen disk.new) }
 {
     let caught = take_caught(catching, &mut world.servers.active);
-    go_down(alloc, &mut world.servers.active);
+    go_down(&mut world.servers.active);
     let now = world.now;
     let taken = take_over(alloc, &mut world.servers, lines, base, fresh, now, disk);
     push_caught(&mut world.history, caught);

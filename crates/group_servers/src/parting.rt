@@ -45,7 +45,7 @@ fn drop_at(alloc: Global, seats: &mut [Seat], server: Server) -> Option<Message>
         None => None,
         Some((first, rest)) => {
             if same_server(server, first.server) {
-                go_down(alloc, &mut first.node);
+                go_down(&mut first.node);
                 clear(alloc, &mut first.back);
                 take_last(alloc, &mut first.link)
             } else {

@@ -48,10 +48,10 @@ pub fn role_shown(armed: bool, role: Role) -> ServerRole
 }
 
 /// A server goes down; what it had is let go.
-pub fn go_down(alloc: Global, node: &mut Node)
+pub fn go_down(node: &mut Node)
     ensures { node.new ≡ alone down }
 {
-    mem::drop(mem::replace(node, Node::down(alloc)));
+    mem::drop(mem::replace(node, Node::down()));
 }
 
 /// A server comes back, and waits for the value of the service; what it had is let go.
