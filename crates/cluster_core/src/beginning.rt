@@ -59,13 +59,7 @@ fn start_active(
 {
     match Service::new(alloc, start, queue, wells) {
         Ok((service, deeds)) => {
-            let mut node = match Node::start(alloc, Role::Active, service) {
-                Ok(node) => node,
-                Err(error) => {
-                    mem::drop(deeds);
-                    return Err(error);
-                }
-            };
+            let mut node = Node::start(alloc, Role::Active, service);
             match node.begin_join(alloc) {
                 Ok(heard) => {
                     mem::drop(heard);
@@ -96,10 +90,7 @@ fn start_standby(
     match Service::new(alloc, start, queue, wells) {
         Ok((service, deeds)) => {
             mem::drop(deeds);
-            match Node::start(alloc, Role::Standby, service) {
-                Ok(node) => Ok(node),
-                Err(error) => Err(error),
-            }
+            Ok(Node::start(alloc, Role::Standby, service))
         }
         Err(error) => Err(error),
     }

@@ -54,7 +54,7 @@ fn own_seat(alloc: Global, acting: Server) -> Seat
 {
     Seat {
         server: acting,
-        node: Node::down(alloc),
+        node: Node::down(),
         link: Seq::new(alloc),
         back: Seq::new(alloc),
     }
@@ -114,8 +114,8 @@ fn take_parts(alloc: Global, world: &mut World) -> Cluster<Group<2>>
     ensures { result ≡ parts_of (acting_in world.old) world.old }
 {
     let acting = acting_in(world);
-    let a = mem::replace(&mut world.a, Node::down(alloc));
-    let b = mem::replace(&mut world.b, Node::down(alloc));
+    let a = mem::replace(&mut world.a, Node::down());
+    let b = mem::replace(&mut world.b, Node::down());
     let (active, other) = in_order(acting, a, b);
     let link = mem::replace(&mut world.link, Seq::new(alloc));
     let back = mem::replace(&mut world.back, Seq::new(alloc));

@@ -35,8 +35,8 @@ impl World {
         ensures { result ≡ empty_world }
     {
         World {
-            a: Node::down(alloc),
-            b: Node::down(alloc),
+            a: Node::down(),
+            b: Node::down(),
             link: Seq::new(alloc),
             back: Seq::new(alloc),
             net: Net::new(alloc),

@@ -32,7 +32,7 @@ fn seat_of(alloc: Global, server: Server) -> Seat
 {
     Seat {
         server,
-        node: Node::down(alloc),
+        node: Node::down(),
         link: Seq::new(alloc),
         back: Seq::new(alloc),
     }
@@ -73,13 +73,10 @@ fn begin<D: SharedDisk>(
     ensures { IfOk result (λ made. HasStateOn (group_kit 2) any_state made.0 (D.seen _disk.now)) }
 {
     match Service::new(alloc, start, queue, wells) {
-        Ok((service, deeds)) => match Node::start(alloc, Role::Active, service) {
-            Ok(active) => Ok((cluster_of(alloc, active, start, callbacks), deeds)),
-            Err(error) => {
-                drop(deeds);
-                Err(error)
-            }
-        },
+        Ok((service, deeds)) => {
+            let active = Node::start(alloc, Role::Active, service);
+            Ok((cluster_of(alloc, active, start, callbacks), deeds))
+        }
         Err(error) => Err(error),
     }
 }

@@ -5,8 +5,7 @@ ghost use Rattle.calls.specs.declared.entry.Entry.TheVariants.{Called};
 ghost use Rattle.wire.specs.declared.message.Message.TheVariants.{Request, Receipt};
 ghost use Rattle.stream_config.specs.WellKnown.{default_attrs};
 ghost use Rattle.service_core.specs.Beginning.{CanBeginAs};
-ghost use Rattle.mirror.specs.Replicas.{HasService, started};
-ghost use Rattle.mirror.specs.Pairing.{alone, CanReceive};
+ghost use Rattle.mirror.specs.Pairing.{CanReceive};
 
 use ais_values::{Seq, StreamKind};
 use calls::{Call, Entry};
@@ -203,14 +202,6 @@ fn receives(rt: &impl Abort, alloc: Global, node: &mut Node, want: Told) {
     hears(rt, alloc, node, receipt(), want);
 }
 
-/// A server that begins with a service.
-fn start(rt: &impl Abort, alloc: Global, role: Role, service: Service) -> Node
-    requires { HasService role }
-    ensures { result ≡ alone (started role service) }
-{
-    Node::start(alloc, role, service).expect(rt, "memory")
-}
-
 /// A call is accepted while nothing is in hand.
 fn accepts(rt: &impl Abort, alloc: Global, node: &mut Node) {
     asks(rt, alloc, node, 1, 2, ignored(Why::Ahead));
@@ -249,7 +240,7 @@ pub(crate) fn new_disk(alloc: Global) -> MemDisk
 #[test]
 fn a_call_is_answered_and_repeated(rt: HostRuntime) {
     let alloc = rt.alloc();
-    let mut node = start(&rt, alloc, Role::Active, service(&rt, alloc));
+    let mut node = Node::start(alloc, Role::Active, service(&rt, alloc));
     let mut disk = new_disk(alloc);
     accepts(&rt, alloc, &mut node);
     answers(&rt, alloc, &mut node, &mut disk);
@@ -260,7 +251,7 @@ fn a_call_is_answered_and_repeated(rt: HostRuntime) {
 #[test]
 fn a_call_of_long_ago_is_old(rt: HostRuntime) {
     let alloc = rt.alloc();
-    let mut node = start(&rt, alloc, Role::Active, service(&rt, alloc));
+    let mut node = Node::start(alloc, Role::Active, service(&rt, alloc));
     let mut disk = new_disk(alloc);
     forgets(&rt, alloc, &mut node, &mut disk, 1);
     drop(disk);
@@ -277,12 +268,12 @@ fn ignores(rt: &impl Abort, alloc: Global, mut node: Node, role: Role) {
 #[test]
 fn other_roles_ignore_all(rt: HostRuntime) {
     let alloc = rt.alloc();
-    ignores(&rt, alloc, Node::down(alloc), Role::Down);
+    ignores(&rt, alloc, Node::down(), Role::Down);
     ignores(&rt, alloc, Node::joining(alloc), Role::Joining);
     ignores(
         &rt,
         alloc,
-        start(&rt, alloc, Role::Standby, service(&rt, alloc)),
+        Node::start(alloc, Role::Standby, service(&rt, alloc)),
         Role::Standby,
     );
 }
@@ -290,7 +281,7 @@ fn other_roles_ignore_all(rt: HostRuntime) {
 #[test]
 fn nothing_is_pushed_while_nothing_is_held(rt: HostRuntime) {
     let alloc = rt.alloc();
-    let node = start(&rt, alloc, Role::Active, service(&rt, alloc));
+    let node = Node::start(alloc, Role::Active, service(&rt, alloc));
     let messages = node.push(alloc).expect(&rt, "memory");
     let count = messages.as_slice().len();
     drop(messages);
@@ -312,7 +303,7 @@ fn first_entry() -> Entry
 
 /// The active server's partner joins, and the first call is accepted and waits; then the server is lost.
 fn mirrors(rt: &impl Abort, alloc: Global) {
-    let mut node = start(rt, alloc, Role::Active, service(rt, alloc));
+    let mut node = Node::start(alloc, Role::Active, service(rt, alloc));
     let begun = told_by(node.begin_join(alloc).expect(rt, "memory"));
     assert!(rt; begun == JOINS);
     asks(rt, alloc, &mut node, 1, 1, MIRRORED);
@@ -325,7 +316,7 @@ fn mirrors(rt: &impl Abort, alloc: Global) {
 fn follows(rt: &impl Abort, alloc: Global, service: Service) -> Node {
     assert!(rt; service.next(1) == 1);
     assert!(rt; service.number() == 0);
-    let mut node = start(rt, alloc, Role::Standby, service);
+    let mut node = Node::start(alloc, Role::Standby, service);
     assert!(rt; !node.keeps());
     let message = Message::Mirror {
         number: 1,

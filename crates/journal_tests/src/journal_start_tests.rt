@@ -365,7 +365,7 @@ fn standby(rt: &impl Abort, alloc: Global) -> Option<Node> {
     let message = snapshot(rt, alloc);
     let restored = match &message {
         Message::Snapshot { saved } => match Service::restore(alloc, saved) {
-            Ok(service) => Node::start(alloc, Role::Standby, service).ok(),
+            Ok(service) => Some(Node::start(alloc, Role::Standby, service)),
             Err(_) => None,
         },
         _ => None,
