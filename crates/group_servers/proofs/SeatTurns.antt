@@ -1,9 +1,12 @@
 -- Turns that go from server to server: to the first to which something comes.
-use Rattle.std.proofs.Common.{◌≡◌, ℕ, Option, None, Result, Ok, Err, List, [], ◌∷◌, length, sym, ◌∙◌, subst}
+use Rattle.std.proofs.Common.{◌≡◌, ℕ, ◌==◌, false, not, Option, None, Result, Ok, Err, List, [], ◌∷◌, length, refl, sym, ◌∙◌, subst}
 use Rattle.std.specs.Prelude.{IfOk}
+use Rattle.std.specs.List.{list_any}
+use Rattle.std.proofs.lemmas.Bool.{or_parts, not-false, eqb-true}
 use Rattle.wire.specs.declared.message.Message.{Message}
 use Rattle.cluster_facts.specs.Types.{Entry}
 use Rattle.group_servers.specs.declared.group.Seat.{Seat}
+use Rattle.group_servers.specs.Seats.{has_link, has_back}
 use Rattle.group_servers.specs.Delivered.{Comes, FirstComes, TakesBack}
 use Rattle.group_servers.specs.Delivered.FirstComes.{nowhere, there}
 use Rattle.group_servers.specs.Delivered.TakesBack.{nothing, later}
@@ -17,6 +20,27 @@ none-back (seat ∷ seats) none = cc
 pub none-comes : (seats : List Seat) (lines : List (List ℕ)) → length seats ≡ 0 → FirstComes None seats seats lines lines
 none-comes [] lines none = nowhere
 none-comes (seat ∷ seats) lines none = cc
+
+-- to none of them something is on the way, and from none of them
+
+none-in : {X : Type 0} (list : List X) → length list ≡ 0 → list ≡ []
+none-in [] none = refl
+none-in (x ∷ list) none = cc
+
+empty : {X : Type 0} (list : List X) → not (length list == 0) ≡ false → list ≡ []
+empty list none = none-in list (eqb-true (length list) 0 (not-false (length list == 0) none))
+
+pub none-goes : (seats : List Seat) (lines : List (List ℕ)) → list_any has_link seats ≡ false → FirstComes None seats seats lines lines
+none-goes [] lines none = nowhere
+none-goes (seat ∷ seats) lines none =
+    let parts = or_parts (has_link seat) (list_any has_link seats) none in
+    there seat (empty seat.link parts.0) (none-goes seats lines parts.1)
+
+pub none-returns : (seats : List Seat) → list_any has_back seats ≡ false → TakesBack None seats seats
+none-returns [] none = nothing
+none-returns (seat ∷ seats) none =
+    let parts = or_parts (has_back seat) (list_any has_back seats) none in
+    later seat (empty seat.back parts.0) (none-returns seats parts.1)
 
 -- nothing comes to the first of them
 

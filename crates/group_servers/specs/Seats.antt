@@ -1,5 +1,5 @@
 -- Words of bodies alone: what servers beside the active one are, and what is on the way to them.
-use Rattle.std.specs.Prelude.{Bool, true, false, ◌&&◌, ◌||◌, not, List, [], ◌∷◌}
+use Rattle.std.specs.Prelude.{◌==◌, Bool, true, false, ◌&&◌, ◌||◌, not, List, [], ◌∷◌, length}
 use Rattle.std.specs.List.{list_any}
 use Rattle.wire.specs.declared.message.Message.{Message}
 use Rattle.wire.specs.declared.message.Message.TheVariants.{Mirror, MirrorAck}
@@ -16,6 +16,13 @@ is_entry _ = false
 abbrev pub is_confirmation : Message → Bool
 is_confirmation (MirrorAck number) = true
 is_confirmation _ = false
+
+-- something is on the way to a server, and on the way back
+abbrev pub has_link : Seat → Bool
+has_link seat = not (length seat.link == 0)
+
+abbrev pub has_back : Seat → Bool
+has_back seat = not (length seat.back == 0)
 
 -- an entry is on the way to a server, and its confirmation on the way back
 abbrev pub entry_goes : Seat → Bool

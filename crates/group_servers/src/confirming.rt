@@ -8,7 +8,7 @@ ghost use Rattle.group_servers.specs.Delivered.{TakesBack, ConfirmsLast};
 ghost use Rattle.group_servers.specs.GroupKit.{group_kit};
 ghost use Rattle.group_servers.specs.Steps.{StepsBy};
 
-use crate::seats::is_last;
+use crate::seats::{any_back, is_last};
 use crate::{Group, Seat};
 use cluster_rounds::Cluster;
 use lead_server::{confirm, take_first};
@@ -59,6 +59,10 @@ pub(crate) fn ack<const N: usize>(
         StepsBy N ack_group went world.old world.new lines lines) }
     ensures err { OnErr result (BreaksAlone (group_kit N) world.old world.new) }
 {
+    // Most steps find nothing on the way, and this tells so without a message's room.
+    if !any_back(&world.servers.seats) {
+        return Ok(false);
+    }
     let message = match take_back(alloc, &mut world.servers.seats) {
         Some(message) => message,
         None => return Ok(false),

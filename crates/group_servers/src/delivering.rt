@@ -10,7 +10,7 @@ ghost use Rattle.group_servers.specs.Delivered.{CanTake, Hears, joined_lines, Te
 ghost use Rattle.group_servers.specs.GroupKit.{group_kit};
 ghost use Rattle.group_servers.specs.Steps.{StepsBy};
 
-use crate::seats::any_goes;
+use crate::seats::{any_goes, any_link};
 use crate::{Group, Seat};
 use ais_values::Seq;
 use calls::{Entry, History};
@@ -169,6 +169,10 @@ pub(crate) fn mirror<const N: usize>(
         lines.old.items lines.new.items) }
     ensures err { OnErr result (BreaksAlone (group_kit N) world.old world.new) }
 {
+    // Most steps find nothing on the way, and this tells so without a message's room.
+    if !any_link(&world.servers.seats) {
+        return Ok(false);
+    }
     let now = world.now;
     match deliver_first(alloc, &mut world.servers.seats, lines, now) {
         Ok(Some(committed)) => {

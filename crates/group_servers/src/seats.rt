@@ -3,7 +3,7 @@ ghost use Rattle.std.specs.Prelude.{◌≡◌, ◌&&◌, ◌||◌, not, List};
 ghost use Rattle.std.specs.List.{list_any};
 ghost use Rattle.group_servers.specs.Parted.{is_up_one, is_standby_other};
 ghost use Rattle.group_cluster.specs.Seats.{same_server};
-ghost use Rattle.group_servers.specs.Seats.{is_entry, is_confirmation, entry_goes, confirms, goes_to, stands_by};
+ghost use Rattle.group_servers.specs.Seats.{has_link, has_back, is_entry, is_confirmation, entry_goes, confirms, goes_to, stands_by};
 ghost use Rattle.group_servers.specs.Seats.{is_fresh, has_applied, is_up, still_waits, is_last, catches};
 
 use crate::Seat;
@@ -26,6 +26,34 @@ pub(crate) fn same_server(one: Server, other: Server) -> bool
             Server::B => true,
         },
     }
+}
+
+/// Whether a message is on the way to a server.
+fn has_link(seat: &Seat) -> bool
+    ensures { result ≡ has_link seat.now }
+{
+    !seat.link.as_slice().is_empty()
+}
+
+/// Whether a message is on the way to some server.
+pub(crate) fn any_link(seats: &[Seat]) -> bool
+    ensures { result ≡ list_any has_link seats.now }
+{
+    seats.iter().any(|seat| has_link(seat))
+}
+
+/// Whether a message is on the way back from a server.
+fn has_back(seat: &Seat) -> bool
+    ensures { result ≡ has_back seat.now }
+{
+    !seat.back.as_slice().is_empty()
+}
+
+/// Whether a message is on the way back from some server.
+pub(crate) fn any_back(seats: &[Seat]) -> bool
+    ensures { result ≡ list_any has_back seats.now }
+{
+    seats.iter().any(|seat| has_back(seat))
 }
 
 /// Whether a message brings an entry.

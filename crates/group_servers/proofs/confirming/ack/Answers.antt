@@ -1,6 +1,7 @@
-use Rattle.std.proofs.Common.{None, List, refl, ap}
+use Rattle.std.proofs.Common.{None, List, refl, sym, ap}
 use Rattle.group_servers.specs.declared.group.Seat.{Seat}
 use Rattle.group_servers.proofs.HearBroken.{untold-breaks}
+use Rattle.group_servers.proofs.SeatTurns.{none-returns}
 use Rattle.group_servers.proofs.ConfirmSteps.{back-stays, can-confirm, ack-happens, acks-none}
 use Rattle.group_servers.proofs.confirming.ack.Goals as goal
 
@@ -15,7 +16,13 @@ returns-in-Ok-clause-ok g c = λ lines setup state good shows.
 pub returns-in-Err-clause-err : goal.returns-in-Err-clause-err
 returns-in-Err-clause-err g c = λ held setup state good shows. untold-breaks g.row.N setup state held c.args.world.now _ good shows refl refl refl refl
 
--- nothing was on the way back
+-- nothing is on the way back
+pub returns-then-not-any_back-clause-ok : goal.returns-then-not-any_back-clause-ok
+returns-then-not-any_back-clause-ok g c = λ lines.
+    let old = c.args.world.now in
+    let takes = none-returns old.servers.seats (sym c.if-not-any_back.ensures) in
+    (refl, refl, λ setup state good shows. (acks-none g.row.N setup state old old.servers.seats shows takes).0)
+
 pub returns-in-None-clause-ok : goal.returns-in-None-clause-ok
 returns-in-None-clause-ok g c = λ lines.
     let old = c.args.world.now in (

@@ -1,10 +1,11 @@
-use Rattle.std.proofs.Common.{Bool, Option, None, List, refl, ap, subst}
+use Rattle.std.proofs.Common.{Bool, Option, None, List, refl, sym, ap, subst}
 use Rattle.cluster_facts.specs.Types.{Entry}
 use Rattle.group_servers.specs.declared.group.Seat.{Seat}
 use Rattle.lead_server.specs.Told.{Commits}
 use Rattle.group_servers.specs.Delivered.{FirstComes, committed_now}
 use Rattle.group_servers.proofs.DeliverSteps.{comes-stays}
 use Rattle.group_servers.proofs.HearBroken.{untold-breaks}
+use Rattle.group_servers.proofs.SeatTurns.{none-goes}
 use Rattle.group_servers.proofs.MirrorSteps.{can-take-all, mirror-happens, mirrors-none}
 use Rattle.group_servers.proofs.delivering.mirror.Goals as goal
 
@@ -20,7 +21,13 @@ returns-in-Ok-clause-ok g c = λ setup state good shows.
     let done = mirror-happens g.row.N setup state c.args.world.now c.deliver_first.new.seats c.commit_applied.new.history c.in-Ok-Some.committed c.args.lines.now.items c.deliver_first.new.lines.items c.commit_applied.new.lines.items good shows comes commits in
     (done.outcome, done.is, done.happened)
 
--- nothing was on the way
+-- nothing is on the way
+pub returns-then-not-any_link-clause-ok : goal.returns-then-not-any_link-clause-ok
+returns-then-not-any_link-clause-ok g c =
+    let old = c.args.world.now in
+    let comes = none-goes old.servers.seats c.args.lines.now.items (sym c.if-not-any_link.ensures) in
+    (refl, refl, λ setup state good shows. (mirrors-none g.row.N setup state old old.servers.seats c.args.lines.now.items c.args.lines.now.items good shows comes).0)
+
 pub returns-in-Ok-None-clause-ok : goal.returns-in-Ok-None-clause-ok
 returns-in-Ok-None-clause-ok g c =
     let old = c.args.world.now in
