@@ -25,10 +25,13 @@ use Rattle.cluster_rounds.specs.Rounds.{EndsStep, advances_by}
 use Rattle.cluster_rounds.specs.Worlds.{HasState, HasStateOn, IsGood, Shows, any_state}
 use Rattle.cluster_rounds.proofs.CameSteps.{came-as}
 use Rattle.cluster_rounds.proofs.FilesSteps.{files-same}
+use Rattle.cluster_rounds.specs.Seen.{counters_of}
 use Rattle.group_servers.specs.declared.group.Group.{Group}
+use Rattle.group_servers.specs.Deals.{Dealt}
 use Rattle.group_servers.specs.GroupKit.{group_kit}
 use Rattle.group_servers.specs.GroupLaws.{group_laws}
 use Rattle.group_servers.specs.GroupNodes.{active_by}
+use Rattle.group_servers.specs.GroupUses.{dealt-same}
 use Rattle.group_servers.specs.Steps.{StepsBy, grew, worked_by, EndsWork}
 use Rattle.group_servers.proofs.EndSteps.{drain-ends}
 use Rattle.group_servers.proofs.GroupSteps.{IsStep, mirror-step, ack-step, mirror-comes, ack-comes, drain-works, line-works}
@@ -79,6 +82,11 @@ module _ (n : ℕ) where
       let one : IsOne setup state made = record { step = ack-step n setup state turned.0 turned.1 good roles is; keeps = record { armed = refl; answered = refl } } in
       subst (IsOne setup state) (some-is made outcome some) one
 
+  -- nothing was worked
+  kept-dealt : (setup : Setup) (state : State Peers) (outcome : Outcome (State Peers)) (disk : DiskSeen) → Keeps state outcome → Dealt (device_by setup (λ number. 0)) state.world.core.answered outcome.state.world.core.answered (counters_of disk) (counters_of disk)
+  kept-dealt setup state outcome disk keeps =
+      dealt-same (device_by setup (λ number. 0)) state.world.core.answered outcome.state.world.core.answered (counters_of disk) keeps.answered
+
   -- **a message on the way to a server**
   pub mirror-advances : (old new : Cluster (Group n)) (before after : List (List ℕ)) (disk : DiskSeen) → StepsBy n mirror_group true old new before after → Advances (group_kit n) true old new before after disk disk
   mirror-advances old new before after disk steps setup state good shows armed so =
@@ -86,7 +94,7 @@ module _ (n : ℕ) where
       let outcome = done.0 in
       let one = mirror-is setup state outcome good (first_turn (mirrored state.world.core.answered) state.peers.seats) refl done.1 in
       step-came n setup state outcome (advances_by (group_kit n) 1 setup) (λ number. 0) old new before after disk disk shows one.step (mirror-comes n setup state outcome one.step done.1)
-      (λ never number. refl) (le_refl disk.faults) (λ more. absurd (omega arith)) done.2.0 done.2.2 (armed ∙ sym one.keeps.armed) (files-same setup state outcome.state disk.files one.keeps.answered)
+      (λ never number. refl) (le_refl disk.faults) (λ more. absurd (omega arith)) (kept-dealt setup state outcome disk one.keeps) done.2.0 done.2.2 (armed ∙ sym one.keeps.armed) (files-same setup state outcome.state disk.files one.keeps.answered)
 
   -- **and on the way back, where none is on the way to any**
   pub ack-advances : (old between new : Cluster (Group n)) (first before after : List (List ℕ)) (disk : DiskSeen) → StepsBy n mirror_group false old between first before → StepsBy n ack_group true between new before after → Advances (group_kit n) true old new first after disk disk
@@ -97,7 +105,7 @@ module _ (n : ℕ) where
       let one = ack-is setup state outcome good (first_turn confirmed state.peers.seats) refl done.1 in
       let lines = subst (λ start. after ≡ start ++ printed outcome.told) none.1 done.2.2 in
       step-came n setup state outcome (advances_by (group_kit n) 1 setup) (λ number. 0) old new first after disk disk shows one.step (ack-comes n setup state outcome one.step (none.2 setup state good shows) done.1)
-      (λ never number. refl) (le_refl disk.faults) (λ more. absurd (omega arith)) done.2.0 lines (armed ∙ sym one.keeps.armed) (files-same setup state outcome.state disk.files one.keeps.answered)
+      (λ never number. refl) (le_refl disk.faults) (λ more. absurd (omega arith)) (kept-dealt setup state outcome disk one.keeps) done.2.0 lines (armed ∙ sym one.keeps.armed) (files-same setup state outcome.state disk.files one.keeps.answered)
 
   -- The world after a step that there was not.
 

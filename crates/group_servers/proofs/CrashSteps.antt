@@ -1,5 +1,5 @@
 -- What a crash of the active server comes to.
-use Rattle.std.proofs.Common.{◌≡◌, ℕ, suc, ◌+◌, ◌≤◌, ◌⊎◌, inl, inr, Bool, true, false, ◌&&◌, ◌||◌, nat_le, if◌then◌else◌, Some, None, List, [], ◌∷◌, ◌++◌, length, refl, ap, sym, ◌∙◌, subst, arith, append-nil}
+use Rattle.std.proofs.Common.{◌≡◌, ℕ, suc, ◌+◌, ◌≤◌, ◌⊎◌, inl, inr, Bool, true, false, ◌&&◌, ◌||◌, nat_le, if◌then◌else◌, is_some, Option, Some, None, List, [], ◌∷◌, ◌++◌, length, refl, ap, sym, ◌∙◌, subst, arith, append-nil}
 use Rattle.std.specs.Prelude.{Result, Ok, Err, OnOk, IfErr}
 use Rattle.std.specs.List.{AllByRecursion, list_any}
 use Rattle.std.specs.Option.{option_to_list}
@@ -7,6 +7,8 @@ use Rattle.std.proofs.lemmas.Bool.Decides.{leb_tells}
 use Rattle.disk_model.specs.declared.answers.DiskAnswer.{DiskAnswer}
 use Rattle.disk_model.specs.declared.answers.DiskAnswer.TheVariants.{Memory, Failed, Stopped}
 use Rattle.disk_model.specs.Seen.{DiskSeen}
+use Rattle.disk_model.specs.Counts.{many_more}
+use Rattle.disk_model.specs.declared.tally.Tally.{Tally}
 use Rattle.script_lines.specs.declared.line.Line.TheVariants as line
 use Rattle.script_lines.specs.declared.line.Server.{Server}
 use Rattle.plain_service.specs.Setups.{Setup}
@@ -21,49 +23,56 @@ use Rattle.mirror.proofs.ReplicaLaws.{count-is}
 use Rattle.lead_server.specs.Parting.{waiting_in, waiting_lines}
 use Rattle.group_cluster.specs.Seats as defined
 use Rattle.group_cluster.specs.Seats.{Peers, any_seat, count_seats, same_server, is_standby}
-use Rattle.group_cluster.specs.Falling.{catches, caught, caught_seats, caught_hand, caught_lines, is_fresh, crash, crash_active, crash_by, taken_over}
+use Rattle.group_cluster.specs.Falling.{catches, caught, caught_seats, caught_hand, caught_lines, is_fresh, crash, crash_active, crash_by, takes, taken_over}
 use Rattle.group_cluster.specs.Ended.{HasCalls}
 use Rattle.group_cluster.proofs.Crashing.{caught-standby as stands-caught}
-use Rattle.group_cluster.proofs.Seating.{apart-caught, any-on, same-is}
+use Rattle.group_cluster.proofs.Seating.{any-none, apart-caught, any-on, same-is}
 use Rattle.group_cluster.proofs.Sounding.{caught-accepts}
 use Rattle.cluster_clients.specs.Clients.{ShowsAgents}
 use Rattle.cluster_clients.specs.Spelled.{AreSpelled}
 use Rattle.cluster_clients.proofs.DispatchSteps.{agents-as}
 use Rattle.cluster_rounds.specs.declared.cluster.Cluster.{Cluster}
 use Rattle.cluster_rounds.specs.Broken.{Broken, LeavesBetween}
-use Rattle.cluster_rounds.specs.Came.{ComesOff, Ended}
 use Rattle.cluster_rounds.specs.Kits.{device_by}
-use Rattle.cluster_rounds.specs.Worlds.{Shows, IsGood, Happened, TellsFiles, LeavesFiles, any_state}
+use Rattle.cluster_rounds.specs.Worlds.{Shows, IsGood, Happened, TellsFiles, LeavesFiles}
 use Rattle.cluster_rounds.proofs.BrokenSteps.{whole-broken}
 use Rattle.cluster_rounds.proofs.FilesSteps.{left-between}
+use Rattle.cluster_rounds.specs.Seen.{counters_of}
 use Rattle.cluster_lines.specs.Own.{DoesOn}
+use Rattle.cluster_lines.specs.Playing.{BreaksOff, EndsLine, LineEnded}
 use Rattle.group_servers.specs.declared.group.Seat.{Seat}
 use Rattle.group_servers.specs.declared.group.Group.{Group}
 use Rattle.group_servers.specs.Caught.{CatchesIf, PutsCaught, taken_if}
+use Rattle.group_servers.specs.Deals.{fell_behind, total}
 use Rattle.group_servers.specs.Falls.{IsFitSeat, TookOver, AllFell, FellPartly, all_wayless}
 use Rattle.group_servers.specs.Followed.{row_calls}
+use Rattle.group_servers.specs.GroupCounts.{CountsCrash, CrashEnded, Crashed, FaultsLine, LacksGroup, fell_first, kept_calls, last_calls}
 use Rattle.group_servers.specs.GroupKit.{group_kit, group_script}
 use Rattle.group_servers.specs.GroupLaws.{group_laws}
 use Rattle.group_servers.specs.GroupNodes.{active_by, waits_by, seats_by, bare}
 use Rattle.group_servers.specs.GroupScript.{calm-uses}
+use Rattle.group_servers.specs.GroupUses.{lacks-quiet, spent-as}
 use Rattle.group_servers.specs.Parted.{leads}
 use Rattle.group_servers.specs.Prepared.{Prepares, Falls, fell}
 use Rattle.group_servers.specs.Seats as code
-use Rattle.group_servers.specs.Steps.{crashed_by, EndsCrashed}
-use Rattle.group_servers.specs.Tried.{Tried}
+use Rattle.group_servers.specs.Lines.{takers}
+use Rattle.group_servers.specs.Steps.{crashed_by}
+use Rattle.group_servers.specs.Tried.{Makes, Row, Tried}
 use Rattle.group_servers.specs.Tries.{TriesPartly, Tries}
+use Rattle.group_servers.proofs.DealSteps.{sum-none}
 use Rattle.group_servers.proofs.DeliverSteps.{MayCome}
-use Rattle.group_servers.proofs.EndSteps.{ended-by}
-use Rattle.group_servers.proofs.FallLines.{takers-wayless}
+use Rattle.group_servers.proofs.EndSteps.{ended-as}
+use Rattle.group_servers.proofs.FallLines.{takers-named, takers-wayless}
 use Rattle.group_servers.proofs.FallShows.{TellsCount, names-caught}
-use Rattle.group_servers.proofs.FallSteps.{wayless-bare, caught-bare, fit-seats, few-of, few-standbys, count-some, tried, failed-are, took-own, took-lines, took-unarmed, took-files, plain-good, stale, fell-fell, fell-lines, fell-last, fell-calls, fell-files, tries-later, partly-later}
+use Rattle.group_servers.proofs.FallSteps.{wayless-bare, caught-bare, fit-seats, few-of, few-standbys, count-some, tried, failed-are, took-own, took-lines, took-unarmed, took-files, plain-good, stale, fell-fell, fell-lines, fell-last, fell-calls, fell-files, all-tried, named-long}
 use Rattle.group_servers.proofs.GoodSteps.{answered-history, accepted-history}
 use Rattle.group_servers.proofs.GroupFiles.{rest-goes-on}
-use Rattle.group_servers.proofs.MadeSteps.{tries-still}
+use Rattle.group_servers.proofs.MadeSteps.{partly-made, partly-still, tries-made, tries-quiet, tries-still}
 use Rattle.group_servers.proofs.MirrorSteps.{may-come}
-use Rattle.group_servers.proofs.OverSteps.{over-state, over-says, ended-later}
+use Rattle.group_servers.proofs.OverSteps.{over-state, over-says}
+use Rattle.group_servers.proofs.RowSteps.{row-long, spent-start}
 use Rattle.group_servers.proofs.SeatSteps.{catches-is, fresh-bare}
-use Rattle.group_servers.proofs.TriedFiles.{partly-leaves, fall-leaves}
+use Rattle.group_servers.proofs.TriedFiles.{all-follow, all-make, partly-leaves, fall-leaves}
 use Rattle.group_servers.proofs.WorkCame.{standby-shown}
 
 pub both-true : (one other : Bool) → (one && other) ≡ true → (one ≡ true) × (other ≡ true)
@@ -121,6 +130,17 @@ caught-standby false owns = refl
 has-calls : (setup : Setup) (fails : ℕ → ℕ) (history : List Entry) → 1 ≤ length (row_calls setup false history) → HasCalls (device_by setup fails) history
 has-calls setup fails [] some = absurd (omega arith)
 has-calls setup fails (entry ∷ past) some = some
+
+-- Of one standby none fell before it.
+
+none-behind : (made : List ℕ) → length made ≡ 0 → 0 ≡ fell_behind made
+none-behind [] none = refl
+none-behind (one ∷ made) none = let is = none in absurd (omega arith)
+
+none-first : (made : List ℕ) → length made ≤ 1 → 0 ≡ fell_first made
+none-first [] few = refl
+none-first (one ∷ []) few = refl
+none-first (one ∷ other ∷ made) few = let is = few in absurd (omega arith)
 
 module _ (n : ℕ) where
   -- what the code knows of the state where the active server crashes
@@ -198,6 +218,20 @@ module _ (n : ℕ) where
     few =
         few-standbys state.peers.acting owns (names-caught catching_so state.peers.seats ∙ good.steady.good.names) (apart-caught state.peers.acting catching_so state.peers.seats good.steady.good.apart)
 
+    -- those that may take over make the calls of the deeds that are kept
+    kept-long : length (row_calls setup fresh history) ≡ kept_calls (device_by setup (λ number. 0)) state
+    kept-long =
+        row-long setup (λ number. 0) fresh history
+        ∙ ap (λ (f : Bool). if f then 0 else last_calls (device_by setup (λ number. 0)) history) (sym fresh-so)
+
+    makes-row : AllByRecursion (Makes (row_calls setup fresh history) fresh) (bare setup past (caught_hand catching_so hand) owns)
+    makes-row =
+        all-make setup past (caught_hand catching_so hand) fresh owns (all-follow past hand state.peers.seats catching_so refl good.steady.good.agree) (λ no. any-none is_fresh owns (fresh-so ∙ no))
+
+    own-row : (news : List Seat) (found : Option ℕ) (start left : DiskSeen) → (row : Tried setup past (caught_hand catching_so hand) fresh owns news found start left) → Row (kept_calls (device_by setup (λ number. 0)) state) row.count (is_some found) start left
+    own-row news found start left row =
+        subst (λ (k : ℕ). Row k row.count (is_some found) start left) kept-long (row.row (row_calls setup fresh history) makes-row)
+
     module _ (new : Cluster (Group n)) (after : List (List ℕ)) (held left : DiskSeen) (result : Result (Unit {0}) DiskAnswer) (falls : Falls catching fresh result mid new prepared.front after held left) (standby : any_seat is_standby state.peers.seats ≡ true) where
       net-is : new.net ≡ old.net
       net-is = ap (λ (world : Cluster (Group n)). world.net) falls.rest ∙ ap (λ (world : Cluster (Group n)). world.net) prepared.rest
@@ -257,6 +291,18 @@ module _ (n : ℕ) where
           took-lines n setup state good (fell mid.servers) new.servers fresh prepared.front after held left seats-are fresh-so acting-is refl took (λ number. 0) before tells front-is,
         )
 
+        -- and the disk counted the calls of the deeds that it kept
+        crashed : Crashed (device_by setup (λ number. 0)) state (counters_of held) (counters_of left)
+        crashed =
+            let counted = own-row took.tried (Some took.place) took.start left row in
+            let made = counted.made in
+            record {
+              row = made;
+              fell = none-behind made (counted.long ∙ none-failed);
+              some = counted.some;
+              spent = spent-start (total made + kept_calls (device_by setup (λ number. 0)) state) (length made) 0 held took.start left took.started counted.spent;
+            }
+
         over-unarmed : left.tally.armed ≡ None
         over-unarmed = took-unarmed n setup state good (fell mid.servers) new.servers fresh prepared.front after held left seats-are fresh-so acting-is refl took
 
@@ -264,14 +310,14 @@ module _ (n : ℕ) where
         over-files told =
             took-files n setup state good (fell mid.servers) new.servers fresh prepared.front after held left seats-are fresh-so acting-is refl took (λ number. 0) held.files standby (rest-goes-on setup state held.files told)
 
-      -- **memory was wanting**: what was committed stays so
-      crash-partly : FellPartly fresh mid.servers.seats held left → (Broken (group_kit n)) setup state held left new × (held.faults ≤ left.faults)
+      -- **memory was wanting**: what was committed stays so, and none failed before
+      crash-partly : FellPartly fresh mid.servers.seats new.servers.armed held left → (Broken (group_kit n)) setup state held left new × LacksGroup setup past new.servers.armed (counters_of held) (counters_of left)
       crash-partly partly = (
         (whole-broken (group_kit n) (group_laws n)) setup state over.state over.told held left new (over-state setup state n good (λ number. 0)).steady.sound (over-says setup state n good (λ number. 0))
             (subst (λ m. AreSpelled state.world.net m) (sym net-is) shows.net)
             (subst (λ a. ShowsAgents over.state.world a) (sym agents-are) (agents-as state.world over.state.world old.agents refl refl refl shows.agents))
             entries-are (now-is ∙ shows.now) (λ told. files-so told partly.part),
-        subst (λ (m : ℕ). m ≤ left.faults) partly.started.faults (faults-so partly.part),
+        lacks-quiet setup past new.servers.armed (made-so partly.part).0 (counters_of held) (counters_of left) ((made-so partly.part).1 ∙ ap (λ (t : Tally). many_more (made-so partly.part).0 t.changing) partly.started.tally) ((quiet-so partly.part).0 ∙ partly.started.faults) ((quiet-so partly.part).1 ∙ partly.started.stops),
       ) where
         T : List Seat → Type 0
         T seats = TriesPartly fresh seats partly.start left
@@ -284,35 +330,73 @@ module _ (n : ℕ) where
             let behind = over-state setup state n good (λ number. 0) in
             left-between setup over.state held.files left.files behind.begins behind.steady.sound behind.range leaves
 
-        faults-so : TriesPartly fresh (all_wayless mid.servers.seats) partly.start left ⊎ ((seats : List Seat) × (place : ℕ) × Tries fresh (all_wayless mid.servers.seats) seats (Some place) partly.start left) → partly.start.faults ≤ left.faults
-        faults-so (inl part) = partly-later fresh (all_wayless mid.servers.seats) partly.start left part
-        faults-so (inr made) = tries-later fresh (all_wayless mid.servers.seats) made.0 (Some made.1) partly.start left made.2
+        few-takers : length (takers fresh (all_wayless mid.servers.seats)) ≤ 1
+        few-takers =
+            let many = ap (takers fresh) seats-are ∙ takers-named setup past (caught_hand catching_so hand) fresh owns in
+            let long = ap length many ∙ named-long (takes fresh) owns in
+            let most = few-of fresh owns in
+            let one = few in
+            omega arith
+
+        made-so : TriesPartly fresh (all_wayless mid.servers.seats) partly.start left ⊎ ((seats : List Seat) × (place : ℕ) × Tries fresh (all_wayless mid.servers.seats) seats (Some place) partly.start left) → (calls : ℕ) × (left.tally.changing ≡ many_more calls partly.start.tally.changing)
+        made-so (inl part) = partly-made fresh (all_wayless mid.servers.seats) partly.start left part
+        made-so (inr made) = tries-made fresh (all_wayless mid.servers.seats) made.0 (Some made.1) partly.start left made.2
+
+        quiet-so : TriesPartly fresh (all_wayless mid.servers.seats) partly.start left ⊎ ((seats : List Seat) × (place : ℕ) × Tries fresh (all_wayless mid.servers.seats) seats (Some place) partly.start left) → (left.faults ≡ partly.start.faults) × (left.stops ≡ partly.start.stops)
+        quiet-so (inl part) = partly-still fresh (all_wayless mid.servers.seats) partly.start left few-takers part
+        quiet-so (inr made) = tries-quiet fresh (all_wayless mid.servers.seats) made.0 (Some made.1) made.1 partly.start left refl few-takers made.2
 
       -- **it failed**: there was one alone
-      crash-ended : AllFell fresh (fell mid.servers) new.servers prepared.front after held left → Ended (group_kit n) setup state (EndsCrashed n state.peers.acting Failed setup) new before after held left
+      crash-ended : AllFell fresh (fell mid.servers) new.servers prepared.front after held left → LineEnded (group_kit n) group_script setup state (line.Crash state.peers.acting) new before after held left
       crash-ended all =
           let some = some-standby standby in
           let last = fell-last n setup state good (fell mid.servers) new.servers fresh prepared.front after held left seats-are fresh-so acting-is refl all some in
           let calls = fell-calls n setup state good (fell mid.servers) new.servers fresh prepared.front after held left seats-are fresh-so acting-is refl all some in
           let none = fresh-so ∙ stale n setup state good (fell mid.servers) new.servers fresh prepared.front after held left seats-are fresh-so acting-is refl all in
           let one = few-standbys state.peers.acting state.peers.seats good.steady.good.names good.steady.good.apart in
-          ended-by n setup state old new before after held left good shows (EndsCrashed n state.peers.acting Failed setup) (λ number. 0)
+          ended-as n setup state old new before after held left good shows
+          (λ happened end. EndsLine (group_kit n) group_script (line.Crash state.peers.acting) setup happened state end)
+          (λ happened end. FaultsLine setup (line.Crash state.peers.acting) happened state (counters_of held) (counters_of left)) printed (λ number. 0)
           (record {
-            later = ended-later setup state;
-            is = λ fails agrees. record {
-              active = refl;
-              standby = standby;
-              none = none;
-              calls = has-calls setup fails history calls;
-              row = omega arith;
-              is = refl;
-            };
+            active = refl;
+            standby = standby;
+            none = none;
+            calls = has-calls setup (λ number. 0) history calls;
+            row = omega arith;
+            is = refl;
           })
-          (record { between = last.between; before_it = last.before_it; caused = λ never number. refl; behind_it = last.behind_it; rose = last.rose })
+          (record {
+            between = last.between;
+            before_it = last.before_it;
+            caused = λ never number. refl;
+            behind_it = last.behind_it;
+            rose = last.rose;
+            ended = crash-fell all;
+          })
+          refl
           (fell-fell n setup state good (fell mid.servers) new.servers fresh prepared.front after held left seats-are fresh-so acting-is refl all)
           net-is agents-are entries-are now-is callbacks-are
           (fell-lines n setup state good (fell mid.servers) new.servers fresh prepared.front after held left seats-are fresh-so acting-is refl all before front-is)
           (λ told. fell-files n setup state good (fell mid.servers) new.servers fresh prepared.front after held left seats-are fresh-so acting-is refl all held.files standby (rest-goes-on setup state held.files told))
+        where
+          crash-fell : AllFell fresh (fell mid.servers) new.servers prepared.front after held left → CrashEnded (device_by setup (λ number. 0)) state (counters_of held) (counters_of left)
+          crash-fell all =
+              let tried = all-tried n setup state good (fell mid.servers) new.servers fresh prepared.front after held left seats-are fresh-so acting-is refl all in
+              let stale_so = stale n setup state good (fell mid.servers) new.servers fresh prepared.front after held left seats-are fresh-so acting-is refl all in
+              let count = tried.next ∙ ap (λ f. count_seats (takes f) owns) stale_so in
+              let some = some-standby standby in
+              let one = few in
+              let counted = own-row new.servers.seats None all.start left tried in
+              let made = counted.made in
+              let long : length made ≡ count_seats is_standby owns = counted.long ∙ count in
+              record {
+                row = made;
+                over = omega arith;
+                fell = none-first made (omega arith);
+                some = counted.some;
+                spent = spent-as _ _ _ _ _ _ (counters_of held) (counters_of left) (sum-none (total made)) refl refl
+                    (spent-start (total made + 0) (length made) 0 held all.start left all.started counted.spent);
+              }
 
   -- **by how the takeover came out**
   abbrev HappenedAs : Setup → Cluster (Group n) → List (List ℕ) → List (List ℕ) → Outcome (State Peers) → Type 0
@@ -329,16 +413,18 @@ module _ (n : ℕ) where
           subst (HappenedAs setup new before after) (sym is) (over-happened old mid catching fresh base before lines prepared setup state good shows new after held left (Ok done) falls found.standby took),
           subst (λ (o : Outcome (State Peers)). left.tally.armed ≡ o.state.peers.armed) (sym is) (over-unarmed old mid catching fresh base before lines prepared setup state good shows new after held left (Ok done) falls found.standby took),
           λ told. subst (λ (o : Outcome (State Peers)). LeavesFiles setup o.state held.files left.files) (sym is) (over-files old mid catching fresh base before lines prepared setup state good shows new after held left (Ok done) falls found.standby took told),
-          calm-uses (line.Crash server) _ held left still,
+          calm-uses setup (line.Crash server) state _ held left still
+              (subst (λ (b : Bool). CountsCrash b (device_by setup (λ number. 0)) state (counters_of held) (counters_of left)) (sym (sym (leads-shown setup state old server good shows) ∙ so))
+              (crashed old mid catching fresh base before lines prepared setup state good shows new after held left (Ok done) falls found.standby took)),
         )
 
-    pub crash-off : (result : Result (Unit {0}) DiskAnswer) → Falls catching fresh result mid new prepared.front after held left → IfErr result (λ answer. ComesOff (group_kit n) any_state (EndsCrashed n server) answer old new before after held left)
+    pub crash-off : (result : Result (Unit {0}) DiskAnswer) → Falls catching fresh result mid new prepared.front after held left → IfErr result (λ answer. BreaksOff (group_kit n) group_script answer (line.Crash server) old new before after held left)
     crash-off (Ok done) falls = tt
-    crash-off (Err Memory) falls = λ setup state good shows armed it.
+    crash-off (Err Memory) falls = λ setup state good shows armed.
         let found = leads-in setup state old server good shows so in
         crash-partly old mid catching fresh base before lines prepared setup state good shows new after held left (Err Memory) falls found.standby falls.ends
-    crash-off (Err Failed) falls = λ setup state good shows armed it.
+    crash-off (Err Failed) falls = λ setup state good shows armed.
         let found = leads-in setup state old server good shows so in
-        let C : Server → Type 0 = λ s. Ended (group_kit n) setup state (EndsCrashed n s Failed setup) new before after held left in
+        let C : Server → Type 0 = λ s. LineEnded (group_kit n) group_script setup state (line.Crash s) new before after held left in
         subst C (sym (same-is server state.peers.acting found.same)) (crash-ended old mid catching fresh base before lines prepared setup state good shows new after held left (Err Failed) falls found.standby falls.ends)
     crash-off (Err Stopped) falls = elim falls.ends [ ]

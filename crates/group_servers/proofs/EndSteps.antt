@@ -5,6 +5,7 @@ use Rattle.disk_model.specs.declared.answers.DiskAnswer.TheVariants.{Failed}
 use Rattle.plain_service.specs.Setups.{Setup}
 use Rattle.cluster_facts.specs.Types.{Entry}
 use Rattle.cluster_facts.specs.History.{Ready}
+use Rattle.cluster_events.specs.Lines.{Told}
 use Rattle.cluster_events.specs.Outcomes.{Outcome}
 use Rattle.cluster_events.specs.Servers.{State}
 use Rattle.cluster_events.specs.Devices.{EndBy, EndsOver, answered_in}
@@ -18,10 +19,12 @@ use Rattle.cluster_clients.specs.Clients.{ShowsAgents}
 use Rattle.cluster_clients.proofs.DispatchSteps.{agents-as}
 use Rattle.cluster_rounds.specs.declared.cluster.Cluster.{Cluster}
 use Rattle.cluster_rounds.specs.Broken.{LeavesBetween}
-use Rattle.cluster_rounds.specs.Came.{Ended}
+use Rattle.cluster_clients.specs.Taken.{kept_lines}
+use Rattle.cluster_rounds.specs.Came.{Ended, EndedBy}
 use Rattle.cluster_rounds.specs.Kits.{device_by}
 use Rattle.cluster_rounds.specs.Rounds.{EndsStep}
 use Rattle.cluster_rounds.specs.Worlds.{IsGood, Shows, TellsFiles}
+use Rattle.cluster_rounds.specs.Seen.{counters_of}
 use Rattle.group_servers.specs.declared.group.Group.{Group}
 use Rattle.group_servers.specs.GroupCounts.{FaultsGroup}
 use Rattle.group_servers.specs.GroupKit.{FellGroup, group_kit}
@@ -30,9 +33,9 @@ use Rattle.group_servers.proofs.GroupSteps.{calls_for, falls_by, same-falls}
 use Rattle.group_servers.proofs.OverSteps.{ended-printed, ended-later, ended-state, ended-says}
 
 module _ (n : ℕ) (setup : Setup) (state : State Peers) (old new : Cluster (Group n)) (before after : List (List ℕ)) (held left : DiskSeen) (good : IsGood (group_kit n) setup state) (shown : Shows (group_kit n) setup state old) where
-  -- what an end left, by the counts of faults before the fault that ended it
-  pub ended-by : (Ends : EndBy Peers) (happened : ℕ → ℕ) → EndsOver Ends happened state (ended state) → FaultsGroup happened held left → FellGroup setup (ended state).state new.servers left.tally.armed → new.net ≡ old.net → new.agents ≡ old.agents → new.history.entries ≡ (ended state).state.world.core.answered → new.now ≡ old.now → new.callbacks ≡ old.callbacks → after ≡ before ++ printed (ended state).told → (TellsFiles setup state held.files → LeavesBetween setup (ended state).state.world.core.answered held.files left.files) → Ended (group_kit n) setup state Ends new before after held left
-  ended-by Ends happened ends faults fell net agents history now callbacks lines files = record {
+  -- what an end left, by what is said of it and of what the disk counted, and by the lines that are shown
+  pub ended-as : (Ends Faulted : (ℕ → ℕ) → Outcome (State Peers) → Type 0) (shown_of : List Told → List (List ℕ)) (happened : ℕ → ℕ) → Ends happened (ended state) → Faulted happened (ended state) → shown_of (ended state).told ≡ printed (ended state).told → FellGroup setup (ended state).state new.servers left.tally.armed → new.net ≡ old.net → new.agents ≡ old.agents → new.history.entries ≡ (ended state).state.world.core.answered → new.now ≡ old.now → new.callbacks ≡ old.callbacks → after ≡ before ++ printed (ended state).told → (TellsFiles setup state held.files → LeavesBetween setup (ended state).state.world.core.answered held.files left.files) → EndedBy (group_kit n) setup state Ends Faulted shown_of new before after held left
+  ended-as Ends Faulted shown_of happened ends faults same fell net agents history now callbacks lines files = record {
     happened = happened;
     end = ended state;
     ends = ends;
@@ -45,9 +48,16 @@ module _ (n : ℕ) (setup : Setup) (state : State Peers) (old new : Cluster (Gro
     history = history;
     now = now ∙ shown.now;
     callbacks = callbacks ∙ shown.callbacks;
-    lines = lines ∙ ap (λ l. before ++ l) (sym (ended-printed setup state));
+    lines = lines ∙ ap (λ l. before ++ l) (sym same);
     files = files;
   }
+
+  -- that of an event, whose lines on messages without effect are left out
+  pub ended-by : (Ends : EndBy Peers) (happened : ℕ → ℕ) → EndsOver Ends happened state (ended state) → FaultsGroup setup happened state.world.core.answered (counters_of held) (counters_of left) → FellGroup setup (ended state).state new.servers left.tally.armed → new.net ≡ old.net → new.agents ≡ old.agents → new.history.entries ≡ (ended state).state.world.core.answered → new.now ≡ old.now → new.callbacks ≡ old.callbacks → after ≡ before ++ printed (ended state).told → (TellsFiles setup state held.files → LeavesBetween setup (ended state).state.world.core.answered held.files left.files) → Ended (group_kit n) setup state Ends new before after held left
+  ended-by Ends happened ends faults =
+      ended-as (λ happened end. EndsOver Ends happened state end)
+      (λ happened end. FaultsGroup setup happened state.world.core.answered (counters_of held) (counters_of left)) kept_lines happened ends faults
+      (ended-printed setup state)
 
   -- The work of an entry in hand ends: in a step of a drain, or in the line `work`.
 

@@ -1,12 +1,13 @@
 -- What lines on failing servers come to, but a crash of the active one.
 use Rattle.std.proofs.Common.{◌≡◌, ℕ, ◌≤◌, Bool, true, false, ◌&&◌, ◌||◌, not, Option, Some, None, option_map, List, [], ◌∷◌, ◌++◌, refl, ap, sym, ◌∙◌, subst, append-nil}
-use Rattle.std.specs.Prelude.{is_some, Result, Ok, Err, OnErr, IfErr}
+use Rattle.std.specs.Prelude.{is_some}
 use Rattle.std.specs.List.{list_any}
 use Rattle.std.specs.Option.{option_to_list}
 use Rattle.std.proofs.lemmas.Bool.{not-true}
 use Rattle.calls.specs.History.{Pushed}
-use Rattle.disk_model.specs.declared.answers.DiskAnswer.{DiskAnswer}
+use Rattle.disk_model.specs.Counts.{armed_at, disarmed}
 use Rattle.disk_model.specs.Seen.{DiskSeen}
+use Rattle.disk_model.specs.declared.tally.Tally.{Tally}
 use Rattle.script_lines.specs.declared.line.Line.TheVariants as line
 use Rattle.script_lines.specs.declared.line.Server.{Server}
 use Rattle.wire.specs.declared.message.Message.{Message}
@@ -31,22 +32,20 @@ use Rattle.group_cluster.proofs.Seating.{all-at}
 use Rattle.group_cluster.proofs.Sounding.{looked-accepts}
 use Rattle.cluster_clients.proofs.DispatchSteps.{agents-as}
 use Rattle.cluster_rounds.specs.declared.cluster.Cluster.{Cluster}
-use Rattle.cluster_rounds.specs.Broken.{BreaksAlone}
-use Rattle.cluster_rounds.specs.Came.{ComesOff}
 use Rattle.cluster_rounds.specs.Kits.{device_by}
 use Rattle.cluster_rounds.specs.PartlyDone.{SaysUnasked}
-use Rattle.cluster_rounds.specs.Rounds.{EndOver}
-use Rattle.cluster_rounds.specs.Worlds.{Does, Happened, IsGood, LeavesFiles, Shows, any_state}
-use Rattle.cluster_rounds.proofs.CameSteps.{alone-off}
+use Rattle.cluster_rounds.specs.Worlds.{Does, Happened, IsGood, LeavesFiles, Shows}
 use Rattle.cluster_rounds.proofs.FilesSteps.{left-same}
-use Rattle.cluster_lines.specs.Answers.{EndsAs}
+use Rattle.cluster_rounds.specs.Seen.{counters_of}
 use Rattle.cluster_lines.specs.Own.{DoesOn}
 use Rattle.group_servers.specs.declared.group.Seat.{Seat}
 use Rattle.group_servers.specs.declared.group.Group.{Group}
+use Rattle.group_servers.specs.GroupCounts.{CountsCrash}
 use Rattle.group_servers.specs.GroupKit.{group_kit, group_script}
-use Rattle.group_servers.specs.GroupLaws.{group_laws, unasked-borne}
+use Rattle.group_servers.specs.GroupLaws.{unasked-borne}
 use Rattle.group_servers.specs.GroupNodes.{seats_by}
 use Rattle.group_servers.specs.GroupScript.{calm-uses}
+use Rattle.group_servers.specs.GroupUses.{spent-none}
 use Rattle.group_servers.specs.Parted.{Begins, DropsAt, follows, is_standby_other, is_up_one, joined_at, leads, lost_entry, lost_lines, rests, settled_by}
 use Rattle.group_servers.specs.Prepared.{with_servers}
 use Rattle.group_servers.specs.Seats as code
@@ -133,15 +132,20 @@ module _ (n : ℕ) where
   crash-refused setup server false state not_leads not_follows =
       crash-refused-other server (is_served state.peers.armed (out_at server state.peers.seats)) (stance_of server state.peers.seats) state not_follows
 
+  -- the disk counted nothing
+  uncounted-crash : (setup : Setup) (state : State Peers) (server : Server) (disk : DiskSeen) → (same_server server state.peers.acting && any_seat is_standby state.peers.seats) ≡ false → CountsCrash (same_server server state.peers.acting && any_seat is_standby state.peers.seats) (device_by setup (λ number. 0)) state (counters_of disk) (counters_of disk)
+  uncounted-crash setup state server disk not =
+      subst (λ (b : Bool). CountsCrash b (device_by setup (λ number. 0)) state (counters_of disk) (counters_of disk)) (sym not) (spent-none (counters_of disk))
+
   pub crash-refuses : (server : Server) (world : Cluster (Group n)) (before after : List (List ℕ)) (disk : DiskSeen) → leads server world.servers ≡ false → follows server world.servers ≡ false → Does (group_kit n) (refused_by n (line.Crash server)) world world before after → DoesOn (group_kit n) group_script (line.Crash server) (crashed_by n server) world world before after disk disk
   crash-refuses server world before after disk not_leads not_follows does setup state good shows armed =
       let is = crash-refused setup server (same_server server state.peers.acting) state (sym (leads-shown n setup state world server good shows) ∙ not_leads) (sym (follows-shown setup state world good shows server) ∙ not_follows) in
-      (subst (HappenedAs setup world before after) (sym is) (does setup state good shows), subst (λ (o : Outcome (State Peers)). disk.tally.armed ≡ o.state.peers.armed) (sym is) armed, λ tells. subst (λ (o : Outcome (State Peers)). LeavesFiles setup o.state disk.files disk.files) (sym is) (left-same setup state disk.files tells), calm-uses (line.Crash server) _ disk disk refl)
+      (subst (HappenedAs setup world before after) (sym is) (does setup state good shows), subst (λ (o : Outcome (State Peers)). disk.tally.armed ≡ o.state.peers.armed) (sym is) armed, λ tells. subst (λ (o : Outcome (State Peers)). LeavesFiles setup o.state disk.files disk.files) (sym is) (left-same setup state disk.files tells), calm-uses setup (line.Crash server) state _ disk disk refl (uncounted-crash setup state server disk (sym (leads-shown n setup state world server good shows) ∙ not_leads)))
 
   pub arm-refuses : (server : Server) (count : ℕ) (world : Cluster (Group n)) (before after : List (List ℕ)) (disk : DiskSeen) → leads server world.servers ≡ false → Does (group_kit n) (refused_by n (line.Arm server count)) world world before after → DoesOn (group_kit n) group_script (line.Arm server count) (armed_by n server count) world world before after disk disk
   arm-refuses server count world before after disk not_leads does setup state good shows armed =
       let is : armed_by n server count setup state ≡ refused (line.Arm server count) state = ap (λ b. arm_by server count b state) (sym (leads-shown n setup state world server good shows) ∙ not_leads) in
-      (subst (HappenedAs setup world before after) (sym is) (does setup state good shows), subst (λ (o : Outcome (State Peers)). disk.tally.armed ≡ o.state.peers.armed) (sym is) armed, λ tells. subst (λ (o : Outcome (State Peers)). LeavesFiles setup o.state disk.files disk.files) (sym is) (left-same setup state disk.files tells), calm-uses (line.Arm server count) _ disk disk refl)
+      (subst (HappenedAs setup world before after) (sym is) (does setup state good shows), subst (λ (o : Outcome (State Peers)). disk.tally.armed ≡ o.state.peers.armed) (sym is) armed, λ tells. subst (λ (o : Outcome (State Peers)). LeavesFiles setup o.state disk.files disk.files) (sym is) (left-same setup state disk.files tells), calm-uses setup (line.Arm server count) state _ disk disk refl (spent-none (counters_of disk)))
 
   pub restart-refuses : (server : Server) (world : Cluster (Group n)) (before after : List (List ℕ)) → rests server world.servers ≡ false → Does (group_kit n) (refused_by n (line.Restart server)) world world before after → Does (group_kit n) (restarted_by n server) world world before after
   restart-refuses server world before after not_rests does setup state good shows =
@@ -217,17 +221,8 @@ module _ (n : ℕ) where
         subst (HappenedAs setup new before after) (sym is) (does setup state good shows),
         subst (λ (o : Outcome (State Peers)). disk.tally.armed ≡ o.state.peers.armed) (sym is) armed,
         λ tells. subst (λ (o : Outcome (State Peers)). LeavesFiles setup o.state disk.files disk.files) (sym is) (left-same setup state disk.files tells),
-        calm-uses (line.Crash server) _ disk disk refl,
+        calm-uses setup (line.Crash server) state _ disk disk refl (uncounted-crash setup state server disk (ap (λ b. b && any_seat is_standby state.peers.seats) found.other)),
       )
-
-  -- the same, as a disk's answer
-  pub ends-off : {E : Type 0} (r : Result (Unit {0}) E) (s : Result (Unit {0}) DiskAnswer) (Ends : EndOver (group_kit n)) (old new : Cluster (Group n)) (before after : List (List ℕ)) (disk : DiskSeen) → EndsAs r s → OnErr r (BreaksAlone (group_kit n) old new) → IfErr s (λ answer. ComesOff (group_kit n) any_state Ends answer old new before after disk disk)
-  ends-off (Ok one) (Ok other) Ends old new before after disk ends so = tt
-  ends-off (Ok one) (Err answer) Ends old new before after disk ends so = absurd ends
-  ends-off (Err e) (Ok other) Ends old new before after disk ends so = absurd ends
-  ends-off (Err e) (Err answer) Ends old new before after disk ends so =
-      let C : DiskAnswer → Type 0 = λ a. ComesOff (group_kit n) any_state Ends a old new before after disk disk in
-      subst C (sym ends) ((alone-off (group_kit n) (group_laws n)) any_state Ends old new before after disk (λ held setup state good shows any. so held setup state good shows))
 
   -- `arm` and `disarm`.
 
@@ -252,8 +247,8 @@ module _ (n : ℕ) where
         moment = good.moment;
       }
 
-  pub arms : (server : Server) (count : ℕ) (old : Cluster (Group n)) (lines : List (List ℕ)) (held left : DiskSeen) → leads server old.servers ≡ true → 1 ≤ count → left.files ≡ held.files → left.tally.armed ≡ Some count → left.faults ≡ held.faults → DoesOn (group_kit n) group_script (line.Arm server count) (armed_by n server count) old (with_servers old (record old.servers { armed = true })) lines lines held left
-  arms server count old lines held left so some files armed faults setup state good shows count_is =
+  pub arms : (server : Server) (count : ℕ) (old : Cluster (Group n)) (lines : List (List ℕ)) (held left : DiskSeen) → leads server old.servers ≡ true → 1 ≤ count → left.files ≡ held.files → left.tally ≡ armed_at count held.tally → left.faults ≡ held.faults → left.stops ≡ held.stops → DoesOn (group_kit n) group_script (line.Arm server count) (armed_by n server count) old (with_servers old (record old.servers { armed = true })) lines lines held left
+  arms server count old lines held left so some files tally faults stops setup state good shows count_is =
       let can = sym (leads-shown n setup state old server good shows) ∙ so in
       let both = both-true (same_server server state.peers.acting) (any_seat is_standby state.peers.seats) can in
       let is : armed_by n server count setup state ≡ record { state = armed_with (Some count) state; told = [] } = ap (λ b. arm_by server count b state) can in
@@ -262,14 +257,28 @@ module _ (n : ℕ) where
       (armed-shows setup state (Some count) old shows, armed-good setup state good (Some count) (some, both.1), sym (append-nil lines))
       in (
         subst (HappenedAs setup new lines lines) (sym is) does,
-        subst (λ (o : Outcome (State Peers)). left.tally.armed ≡ o.state.peers.armed) (sym is) armed,
+        subst (λ (o : Outcome (State Peers)). left.tally.armed ≡ o.state.peers.armed) (sym is) (ap (λ (t : Tally). t.armed) tally),
         λ tells. subst (λ (o : Outcome (State Peers)). LeavesFiles setup o.state held.files left.files) (sym is) (files ∙ left-same setup state held.files tells),
-        calm-uses (line.Arm server count) _ held left faults,
+        calm-uses setup (line.Arm server count) state _ held left faults (record {
+          changing = ap (λ (t : Tally). t.changing) tally;
+          reading = ap (λ (t : Tally). t.reading) tally;
+          faults = faults;
+          stops = stops;
+        }),
       )
 
-  pub disarms : (old : Cluster (Group n)) (lines : List (List ℕ)) (held left : DiskSeen) → left.files ≡ held.files → left.tally.armed ≡ None → left.faults ≡ held.faults → DoesOn (group_kit n) group_script line.Disarm (disarmed_by n) old (with_servers old (record old.servers { armed = false })) lines lines held left
-  disarms old lines held left files armed faults setup state good shows count_is =
-      ((armed-shows setup state None old shows, armed-good setup state good None tt, sym (append-nil lines)), armed, λ tells. files ∙ left-same setup state held.files tells, calm-uses line.Disarm _ held left faults)
+  pub disarms : (old : Cluster (Group n)) (lines : List (List ℕ)) (held left : DiskSeen) → left.files ≡ held.files → left.tally ≡ disarmed held.tally → left.faults ≡ held.faults → left.stops ≡ held.stops → DoesOn (group_kit n) group_script line.Disarm (disarmed_by n) old (with_servers old (record old.servers { armed = false })) lines lines held left
+  disarms old lines held left files tally faults stops setup state good shows count_is = (
+    (armed-shows setup state None old shows, armed-good setup state good None tt, sym (append-nil lines)),
+    ap (λ (t : Tally). t.armed) tally,
+    λ tells. files ∙ left-same setup state held.files tells,
+    calm-uses setup line.Disarm state _ held left faults (record {
+      changing = ap (λ (t : Tally). t.changing) tally;
+      reading = ap (λ (t : Tally). t.reading) tally;
+      faults = faults;
+      stops = stops;
+    }),
+  )
 
   -- `restart`.
 

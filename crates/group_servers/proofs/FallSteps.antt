@@ -2,8 +2,10 @@
 use Rattle.std.proofs.Common.{◌≡◌, ℕ, zero, suc, ◌+◌, ◌≤◌, ◌⊎◌, inl, inr, Bool, true, false, ◌||◌, if◌then◌else◌, Option, Some, None, option_map, List, [], ◌∷◌, ◌++◌, length, refl, ap, sym, ◌∙◌, subst, arith, le_refl, le_trans, append_assoc}
 use Rattle.std.specs.List.{AllByRecursion}
 use Rattle.ais_values.specs.Causes.{Rose}
+use Rattle.disk_model.specs.Counts.{lowered}
 use Rattle.disk_model.specs.Disk.{Files}
 use Rattle.disk_model.specs.Seen.{DiskSeen}
+use Rattle.disk_model.specs.declared.tally.Tally.{Tally}
 use Rattle.wire.specs.declared.message.Message.{Message}
 use Rattle.script_lines.specs.declared.line.Server.{Server}
 use Rattle.script_lines.specs.declared.line.Server.TheVariants.{A, B}
@@ -119,16 +121,10 @@ tries-unarmed fresh seats news found start left unarmed (passes {found = place} 
 tries-unarmed fresh seats news found start left unarmed (fails {found = place} {mid = mid} seat fallen it one rest) = tries-unarmed fresh _ _ place mid left one.3 rest
 tries-unarmed fresh seats news found start left unarmed (takes_over seat now it one) = one.2
 
-pub tries-later : (fresh : Bool) (seats news : List Seat) (found : Option ℕ) (start left : DiskSeen) → Tries fresh seats news found start left → start.faults ≤ left.faults
-tries-later fresh seats news found start left nobody = le_refl start.faults
-tries-later fresh seats news found start left (passes {found = place} seat not rest) = tries-later fresh _ _ place start left rest
-tries-later fresh seats news found start left (fails {found = place} {mid = mid} seat fallen it one rest) = le_trans one.4 (tries-later fresh _ _ place mid left rest)
-tries-later fresh seats news found start left (takes_over seat now it one) = subst (λ (m : ℕ). start.faults ≤ m) (sym one.3) (le_refl start.faults)
-
-pub partly-later : (fresh : Bool) (seats : List Seat) (start left : DiskSeen) → TriesPartly fresh seats start left → start.faults ≤ left.faults
-partly-later fresh seats start left (passes_by seat not rest) = partly-later fresh _ start left rest
-partly-later fresh seats start left (fails_first {mid = mid} seat fallen it one rest) = le_trans one.4 (partly-later fresh _ mid left rest)
-partly-later fresh seats start left (lacks seat it one) = subst (λ (m : ℕ). start.faults ≤ m) (sym one.2) (le_refl start.faults)
+pub partly-unarmed : (fresh : Bool) (seats : List Seat) (start left : DiskSeen) → start.tally.armed ≡ None → TriesPartly fresh seats start left → left.tally.armed ≡ None
+partly-unarmed fresh seats start left unarmed (passes_by seat not rest) = partly-unarmed fresh _ start left unarmed rest
+partly-unarmed fresh seats start left unarmed (fails_first {mid = mid} seat fallen it one rest) = partly-unarmed fresh _ mid left one.3 rest
+partly-unarmed fresh seats start left unarmed (lacks seat it one) = ap (λ (t : Tally). t.armed) one.3 ∙ ap (lowered one.0) unarmed
 
 -- the last fault of those that all failed, and those before it
 pub record LastFell (count : ℕ) (start left : DiskSeen) : Type 0 where
@@ -264,7 +260,7 @@ few-of true (own ∷ owns) = by own.stance (few-of true owns)
     by (Standby on_way mark true) deeper = omega arith
     by (Standby on_way mark false) deeper = omega arith
 
-named-long : (test : Stance → Bool) (owns : List defined.Seat) → length (named test owns) ≡ count_seats test owns
+pub named-long : (test : Stance → Bool) (owns : List defined.Seat) → length (named test owns) ≡ count_seats test owns
 named-long test [] = refl
 named-long test (own ∷ owns) = by (test own.stance) (named-long test owns)
   where

@@ -13,6 +13,8 @@ pub mod MirrorSteps
 pub mod ConfirmSteps
 pub mod SeatTurns
 pub mod TrySteps
+pub mod GroupFiles
+pub mod RowSteps
 pub mod TriedSteps
 pub mod RejoinSteps
 pub mod TriedFiles
@@ -21,8 +23,8 @@ pub mod FallShows
 pub mod FallLines
 pub mod MadeSteps
 pub mod FallSteps
-pub mod GroupFiles
 pub mod DoneSteps
+pub mod DealSteps
 pub mod WorkSteps
 pub mod OverSteps
 pub mod EndSteps

@@ -33,6 +33,7 @@ use Rattle.cluster_rounds.specs.Worlds.{Does, HasStateOn, any_state}
 use Rattle.cluster_rounds.specs.Broken.{BreaksAlone}
 use Rattle.cluster_rounds.specs.Came.{Comes, ComesOff}
 use Rattle.cluster_rounds.proofs.BrokenClients.{same-breaks}
+use Rattle.cluster_rounds.specs.Seen.{counters_of}
 use Rattle.cluster_lines.specs.Playing.{BreaksOff}
 use Rattle.cluster_lines.specs.Showing.{StandsAs}
 use Rattle.cluster_lines.specs.Answers.{EndsAs}
@@ -46,10 +47,11 @@ use Rattle.group_servers.specs.declared.group.Group.{Group}
 use Rattle.group_servers.specs.GroupKit.{group_kit, group_script}
 use Rattle.group_servers.specs.GroupLaws.{group_laws}
 use Rattle.group_servers.specs.GroupScript.{calm-uses, group_follows}
+use Rattle.group_servers.specs.GroupUses.{dealt-none, spent-none}
 use Rattle.group_servers.specs.GroupNodes.{active_by}
 use Rattle.group_servers.specs.Standing.{standing_as}
-use Rattle.group_servers.specs.Steps.{EndsCrashed, EndsWork, acked_next, armed_by, crashed_by, disarmed_by, mirrored_next, refused_by, restarted_by, worked_by}
-use Rattle.group_servers.proofs.CountSteps.{off-counted}
+use Rattle.group_servers.specs.Steps.{EndsWork, acked_next, armed_by, crashed_by, disarmed_by, mirrored_next, refused_by, restarted_by, worked_by}
+use Rattle.group_servers.proofs.CountSteps.{crash-counted, off-counted}
 use Rattle.group_servers.proofs.GroupSteps.{done-tells, over-tells}
 use Rattle.group_servers.proofs.StandingSteps.{standing-is}
 
@@ -77,17 +79,17 @@ module _ (n : ℕ) where
     pub mirror-line : next ≡ line.Mirror → EndsAs r s → (HasStateOn (group_kit n)) any_state old held → OnOk r ((Does (group_kit n)) (mirrored_next n) old new before after) → OnErr r ((BreaksAlone (group_kit n)) old new) → PlaysLine (group_kit n) group_script s next old new before after held held
     mirror-line is same has does breaks =
         subst (λ (next : Line). PlaysLine (group_kit n) group_script s next old new before after held held) (sym is)
-        ((alone-line (group_kit n) (group_laws n) group_script (group_follows n)) r s line.Mirror (mirrored_next n) old new before after held same has (λ setup state good shows count. refl) (λ setup state good shows count. calm-uses line.Mirror _ held held refl) (λ setup state. step-keeps setup state line.Mirror (first_turn (mirrored state.world.core.answered) state.peers.seats)) does breaks)
+        ((alone-line (group_kit n) (group_laws n) group_script (group_follows n)) r s line.Mirror (mirrored_next n) old new before after held same has (λ setup state good shows count. refl) (λ setup state good shows count. calm-uses setup line.Mirror state _ held held refl (spent-none (counters_of held))) (λ setup state. step-keeps setup state line.Mirror (first_turn (mirrored state.world.core.answered) state.peers.seats)) does breaks)
 
     pub ack-line : next ≡ line.Ack → EndsAs r s → (HasStateOn (group_kit n)) any_state old held → OnOk r ((Does (group_kit n)) (acked_next n) old new before after) → OnErr r ((BreaksAlone (group_kit n)) old new) → PlaysLine (group_kit n) group_script s next old new before after held held
     ack-line is same has does breaks =
         subst (λ (next : Line). PlaysLine (group_kit n) group_script s next old new before after held held) (sym is)
-        ((alone-line (group_kit n) (group_laws n) group_script (group_follows n)) r s line.Ack (acked_next n) old new before after held same has (λ setup state good shows count. refl) (λ setup state good shows count. calm-uses line.Ack _ held held refl) (λ setup state. step-keeps setup state line.Ack (first_turn confirmed state.peers.seats)) does breaks)
+        ((alone-line (group_kit n) (group_laws n) group_script (group_follows n)) r s line.Ack (acked_next n) old new before after held same has (λ setup state good shows count. refl) (λ setup state good shows count. calm-uses setup line.Ack state _ held held refl (spent-none (counters_of held))) (λ setup state. step-keeps setup state line.Ack (first_turn confirmed state.peers.seats)) does breaks)
 
     pub restart-line : (server : Server) → next ≡ line.Restart server → EndsAs r s → (HasStateOn (group_kit n)) any_state old held → OnOk r ((Does (group_kit n)) (restarted_by n server) old new before after) → OnErr r ((BreaksAlone (group_kit n)) old new) → PlaysLine (group_kit n) group_script s next old new before after held held
     restart-line server is same has does breaks =
         subst (λ (next : Line). PlaysLine (group_kit n) group_script s next old new before after held held) (sym is)
-        ((alone-line (group_kit n) (group_laws n) group_script (group_follows n)) r s (line.Restart server) (restarted_by n server) old new before after held same has (λ setup state good shows count. refl) (λ setup state good shows count. calm-uses (line.Restart server) _ held held refl) (λ setup state. restart_by-keeps setup server (same_server server state.peers.acting) (stance_of server state.peers.seats) state) does breaks)
+        ((alone-line (group_kit n) (group_laws n) group_script (group_follows n)) r s (line.Restart server) (restarted_by n server) old new before after held same has (λ setup state good shows count. refl) (λ setup state good shows count. calm-uses setup (line.Restart server) state _ held held refl (spent-none (counters_of held))) (λ setup state. restart_by-keeps setup server (same_server server state.peers.acting) (stance_of server state.peers.seats) state) does breaks)
 
   -- Where a line ends by a fault all its lines are printed.
 
@@ -114,24 +116,10 @@ module _ (n : ℕ) where
 
   -- A crash.
 
-  crash-off : (answer : DiskAnswer) (server : Server) (old new : Cluster (Group n)) (before after : List (List ℕ)) (held left : DiskSeen) → (ComesOff (group_kit n)) any_state (EndsCrashed n server) answer old new before after held left → (BreaksOff (group_kit n) group_script) answer (line.Crash server) old new before after held left
-  crash-off Memory server old new before after held left off = λ setup state good shows count. off setup state good shows count tt
-  crash-off Stopped server old new before after held left off = λ setup state good shows count.
-      let halted = off setup state good shows count tt in halted.ends.is halted.happened (λ number above within. refl)
-  crash-off Failed server old new before after held left off = λ setup state good shows count.
-      (ended-line (group_kit n) (group_laws n) group_script (group_follows n)) (line.Crash server) (EndsCrashed n server Failed) setup state new before after held left
-      (λ fails end ends. record { active = ends.active; standby = ends.standby; none = ends.none; calls = ends.calls; row = ends.row; is = ended-kept state end ends.is })
-      (λ happened end faults. faults)
-      (off setup state good shows count tt)
-
-  crash-broken : {T : Type 0} (r : Result T DiskAnswer) (server : Server) (old new : Cluster (Group n)) (before after : List (List ℕ)) (held left : DiskSeen) → IfErr r (λ answer. (ComesOff (group_kit n)) any_state (EndsCrashed n server) answer old new before after held left) → IfErr r (λ answer. (BreaksOff (group_kit n) group_script) answer (line.Crash server) old new before after held left)
-  crash-broken (Ok x) server old new before after held left off = tt
-  crash-broken (Err answer) server old new before after held left off = crash-off answer server old new before after held left off
-
-  pub crash-line : {T : Type 0} (r : Result T DiskAnswer) (next : Line) (server : Server) (old new : Cluster (Group n)) (before after : List (List ℕ)) (held left : DiskSeen) → next ≡ line.Crash server → (HasStateOn (group_kit n)) any_state old held → OnOk r ((DoesOn (group_kit n) group_script) (line.Crash server) (crashed_by n server) old new before after held left) → IfErr r (λ answer. (ComesOff (group_kit n)) any_state (EndsCrashed n server) answer old new before after held left) → PlaysLine (group_kit n) group_script r next old new before after held left
+  pub crash-line : {T : Type 0} (r : Result T DiskAnswer) (next : Line) (server : Server) (old new : Cluster (Group n)) (before after : List (List ℕ)) (held left : DiskSeen) → next ≡ line.Crash server → (HasStateOn (group_kit n)) any_state old held → OnOk r ((DoesOn (group_kit n) group_script) (line.Crash server) (crashed_by n server) old new before after held left) → IfErr r (λ answer. (BreaksOff (group_kit n) group_script) answer (line.Crash server) old new before after held left) → PlaysLine (group_kit n) group_script r next old new before after held left
   crash-line r next server old new before after held left is has does off =
       subst (λ (next : Line). PlaysLine (group_kit n) group_script r next old new before after held left) (sym is)
-      ((disk-line (group_kit n) (group_laws n) group_script (group_follows n)) r (line.Crash server) (crashed_by n server) old new before after held left has (λ setup state good shows count. refl) does (crash-broken r server old new before after held left off) (off-counted n r (EndsCrashed n server) old new before after held left has (on_ok_weaker r (λ (d : (DoesOn (group_kit n) group_script) (line.Crash server) (crashed_by n server) old new before after held left). (d has.setup has.state has.good has.shows has.count).3.later) does) off))
+      ((disk-line (group_kit n) (group_laws n) group_script (group_follows n)) r (line.Crash server) (crashed_by n server) old new before after held left has (λ setup state good shows count. refl) does off (crash-counted n r server old new before after held left has (on_ok_weaker r (λ (d : (DoesOn (group_kit n) group_script) (line.Crash server) (crashed_by n server) old new before after held left). (d has.setup has.state has.good has.shows has.count).3.later) does) off))
 
   -- Arms.
 
@@ -189,7 +177,14 @@ module _ (n : ℕ) where
   work-off Failed old new before after held left off = λ setup state good shows count.
       (ended-line (group_kit n) (group_laws n) group_script (group_follows n)) line.Work (EndsWork n Failed) setup state new before after held left
       (λ fails end ends. record { entry = ends.entry; ready = ends.ready; calls = ends.calls; fell = ends.fell; row = ends.row; is = ended-kept state end ends.is })
-      (λ happened end faults. faults)
+      (λ happened end faults. record {
+        between = faults.between;
+        before_it = faults.before_it;
+        caused = faults.caused;
+        behind_it = faults.behind_it;
+        rose = faults.rose;
+        ended = faults.ended;
+      })
       (off setup state good shows count tt)
 
   work-broken : {T : Type 0} (r : Result T DiskAnswer) (old new : Cluster (Group n)) (before after : List (List ℕ)) (held left : DiskSeen) → IfErr r (λ answer. (ComesOff (group_kit n)) any_state (EndsWork n) answer old new before after held left) → IfErr r (λ answer. (BreaksOff (group_kit n) group_script) answer line.Work old new before after held left)
@@ -200,7 +195,7 @@ module _ (n : ℕ) where
   work-line r next old new before after loud held left is has comes off =
       subst (λ (next : Line). PlaysLine (group_kit n) group_script r next old new before after held left) (sym is)
       (record {
-        ok = on_ok_weaker r (λ (does : (Comes (group_kit n)) any_state (worked_by n) old new before after loud held left). (plays-came (group_kit n) (group_laws n) group_script (group_follows n)) line.Work (worked_by n) old new before after loud held left (λ setup happened state outcome uses. record { caused = uses.caused; later = uses.later; felled = λ less. (refl, uses.felled less) }) (λ setup fails state good shows count. refl) (λ setup fails state good shows. worked-quiet setup fails state) does) comes;
+        ok = on_ok_weaker r (λ (does : (Comes (group_kit n)) any_state (worked_by n) old new before after loud held left). (plays-came (group_kit n) (group_laws n) group_script (group_follows n)) line.Work (worked_by n) old new before after loud held left (λ setup happened state outcome uses. record { caused = uses.caused; later = uses.later; felled = λ less. (refl, uses.felled less); counts = uses.dealt }) (λ setup fails state good shows count. refl) (λ setup fails state good shows. worked-quiet setup fails state) does) comes;
         stands = on_ok_weaker r (λ (does : (Comes (group_kit n)) any_state (worked_by n) old new before after loud held left). (came-stands (group_kit n) (group_laws n)) (worked_by n) old new before after loud held left has does) comes;
         broken = work-broken r old new before after held left off;
         counts = off-counted n r (EndsWork n) old new before after held left has (on_ok_weaker r (λ (d : (Comes (group_kit n)) any_state (worked_by n) old new before after loud held left). (d has.setup has.state has.good has.shows has.count tt).uses.later) comes) off;
@@ -220,5 +215,5 @@ module _ (n : ℕ) where
       subst (λ (next : Line). PlaysLine (group_kit n) group_script s next old new before after held held) (sym is)
       ((alone-line (group_kit n) (group_laws n) group_script (group_follows n)) r s line.Work (refused_by n line.Work) old new before after held same has
       (λ setup state good shows count. idle-by setup state state.world.core.hand state.peers.seats (subst I shows.own idle))
-      (λ setup state good shows count. calm-uses line.Work _ held held refl)
+      (λ setup state good shows count. calm-uses setup line.Work state _ held held refl (dealt-none (device_by setup (λ number. 0)) state.world.core.answered (counters_of held)))
       (λ setup state. record { armed = λ seen armed. armed; tells = λ seen tells. tells }) (subst R is does) breaks)

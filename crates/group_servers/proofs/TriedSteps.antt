@@ -1,7 +1,6 @@
 -- Standbys that tried to take over are what they are by the definitions.
-use Rattle.std.proofs.Common.{◌≡◌, ℕ, zero, suc, ◌+◌, ◌≤◌, Bool, true, false, if◌then◌else◌, Option, Some, None, option_map, List, [], ◌∷◌, ◌++◌, ◌<◌, length, refl, ap, sym, ◌∙◌, subst, arith, le_refl, le_trans}
-use Rattle.disk_model.specs.Disk.{Files}
-use Rattle.disk_model.specs.DeviceCalls.{DeviceCall, LeftBy, BreaksOff}
+use Rattle.std.proofs.Common.{◌≡◌, ℕ, zero, suc, ◌+◌, ◌≤◌, Bool, true, false, if◌then◌else◌, Option, Some, None, option_map, is_some, List, [], ◌∷◌, ◌<◌, length, refl, ap, sym, ◌∙◌, subst, arith, le_refl, le_trans}
+use Rattle.disk_model.specs.DeviceCalls.{DeviceCall, LeftBy}
 use Rattle.stream_layout.specs.Deeds.{calls_of_all}
 use Rattle.script_lines.specs.declared.line.Server.{Server}
 use Rattle.plain_service.specs.Setups.{Setup}
@@ -13,14 +12,18 @@ use Rattle.group_cluster.specs.Seats as defined
 use Rattle.group_cluster.specs.Seats.{Stance, Out, Owed, Linking, Standby}
 use Rattle.group_cluster.specs.Falling.{felled, named, next_of}
 use Rattle.group_cluster.specs.Falling as falling
+use Rattle.cluster_rounds.specs.Seen.{counters_of}
 use Rattle.group_servers.specs.declared.group.Seat.{Seat}
 use Rattle.group_servers.specs.GroupNodes.{bare_by, bare}
 use Rattle.disk_model.specs.Seen.{DiskSeen}
 use Rattle.group_servers.specs.Lines.{takers}
 use Rattle.group_servers.specs.Tries.{takes, Tries, TriesOne}
 use Rattle.group_servers.specs.Tries.Tries.{nobody, passes, fails, takes_over}
-use Rattle.group_servers.specs.Tried.{won_at, won, HasLeft, IsAtPlace, IsNext, Tried}
+use Rattle.group_servers.specs.Tried.{won_at, won, HasLeft, IsAtPlace, IsNext, Row, Tried}
+use Rattle.group_servers.specs.Deals.{AreSome, Spent, total}
+use Rattle.group_servers.specs.GroupUses.{spent-as, spent-both, spent-none}
 use Rattle.group_servers.proofs.DeliverSteps.{first-of, rest-of}
+use Rattle.group_servers.proofs.RowSteps.{failed-spent, passed-spent, plus-all, some-made, zero-more}
 
 no-one : 1 ≤ 0 → ⊥
 no-one some = omega arith
@@ -42,9 +45,6 @@ further_in found = option_map (λ place. place + 1) found
 
 one-more : (place : ℕ) → place + 1 ≡ suc place
 one-more place = omega arith
-
-zero-more : (n : ℕ) → n ≡ 0 + n
-zero-more n = omega arith
 
 suc-more : (n : ℕ) → suc n ≡ 1 + n
 suc-more n = omega arith
@@ -93,12 +93,25 @@ next-first test seat seats it = (
       subst N (sym names) (refl, it),
 )
 
-some-calls : (calls : List DeviceCall) (count : ℕ) (held left : Option Files) → BreaksOff LeftBy calls count held left → 1 ≤ length calls
-some-calls calls count held left broke = subst (λ (c : List DeviceCall). 1 ≤ length c) (sym broke.in_order) (some-in broke.done broke.broken broke.undone)
-  where
-    some-in : (done : List DeviceCall) (broken : DeviceCall) (undone : List DeviceCall) → 1 ≤ length (done ++ broken ∷ undone)
-    some-in [] broken undone = omega arith
-    some-in (call ∷ done) broken undone = let rest = some-in done broken undone in omega arith
+further-some : (found : Option ℕ) → is_some (further_in found) ≡ is_some found
+further-some None = refl
+further-some (Some place) = refl
+
+-- What the disk counted.
+
+row-passes : (calls count : ℕ) (found : Option ℕ) (held left : DiskSeen) → Row calls count (is_some found) held left → Row calls count (is_some (further_in found)) held left
+row-passes calls count found held left row = subst (λ (b : Bool). Row calls count b held left) (sym (further-some found)) row
+
+row-fails : (calls count made : ℕ) (found : Option ℕ) (held mid left : DiskSeen) → AreSome calls (suc made) → Spent (suc made) 1 0 (counters_of held) (counters_of mid) → Row calls count (is_some found) mid left → Row calls (suc count) (is_some (further_in found)) held left
+row-fails calls count made found held mid left some one rest =
+    let last = if is_some found then calls else 0 in
+    row-passes calls (suc count) found held left (record {
+      made = suc made ∷ rest.made;
+      long = ap suc rest.long;
+      some = (some, rest.some);
+      spent = spent-as _ _ _ _ _ _ (counters_of held) (counters_of left) (plus-all (suc made) (total rest.made) last) (sym (suc-more (length rest.made))) refl
+          (spent-both (suc made) (total rest.made + last) 1 (length rest.made) 0 0 (counters_of held) (counters_of mid) (counters_of left) one rest.spent);
+    })
 
 -- Of how many there are to try.
 
@@ -135,6 +148,7 @@ past-one setup past hand fresh seat own owns new found held left is not rest =
       later = rest.later;
       caused = rest.caused;
       calls = λ calls makes some. rest.calls calls makes.1 some;
+      row = λ calls makes. row-passes (length calls) rest.count found held left (rest.row calls makes.1);
     }
 
 failed-one : (setup : Setup) (past : List Entry) (hand : Hand) (fresh : Bool) (seat fallen : Seat) (own : defined.Seat) (owns : List defined.Seat) (new : List Seat) (found : Option ℕ) (held mid left : DiskSeen) → seat ≡ bare_by setup past hand own → takes fresh seat ≡ true → TriesOne seat fallen false held mid → Tried setup past hand fresh owns new found mid left → Tried setup past hand fresh (own ∷ owns) (fallen ∷ new) (further_in found) held left
@@ -143,6 +157,10 @@ failed-one setup past hand fresh seat fallen own owns new found held mid left is
     let out = bare_by setup past hand (record { server = own.server; stance = Out }) in
     let fell = one.0 ∙ ap (λ (s : Seat). record s { node = alone down }) is in
     let rose = one.5 in
+    let kept = calls_of_all (deeds_kept seat.node.kept) in
+    let some : AreSome (length kept) (suc one.1) = some-made LeftBy kept one.1 held.files mid.files one.2 in
+    let deeds = ap (λ (s : Seat). calls_of_all (deeds_kept s.node.kept)) is in
+    let here = ap (takes fresh) (sym is) ∙ it in
     record {
       count = suc rest.count;
       is = ap (λ s. s ∷ new) fell ∙ ap (λ n. out ∷ n) rest.is
@@ -154,10 +172,13 @@ failed-one setup past hand fresh seat fallen own owns new found held mid left is
           (takers-not fresh fallen new (ap (takes fresh) fell)) rest.rest;
       later = le_trans one.4 rest.later;
       caused = λ some. le_trans rose rest.later;
-      calls = λ calls makes some.
-          let made = makes.0 (ap (takes fresh) (sym is) ∙ it) in
-          let deeds = ap (λ (s : Seat). calls_of_all (deeds_kept s.node.kept)) is in
-          subst (λ (c : List DeviceCall). 1 ≤ length c) (deeds ∙ made) (some-calls (calls_of_all (deeds_kept seat.node.kept)) one.1 held.files mid.files one.2);
+      calls = λ calls makes one_failed.
+          let least = some.0 in
+          let most = some.1 in
+          subst (λ (c : List DeviceCall). 1 ≤ length c) (deeds ∙ makes.0 here) (omega arith);
+      row = λ calls makes.
+          row-fails (length calls) rest.count one.1 found held mid left (subst (λ (c : List DeviceCall). AreSome (length c) (suc one.1)) (deeds ∙ makes.0 here) some)
+          (failed-spent (suc one.1) held mid one.6 one.4 one.5 one.7) (rest.row calls makes.1);
     }
 
 took-one : (setup : Setup) (past : List Entry) (hand : Hand) (fresh : Bool) (seat now : Seat) (own : defined.Seat) (owns : List defined.Seat) (held left : DiskSeen) → seat ≡ bare_by setup past hand own → takes fresh seat ≡ true → TriesOne seat now true held left → Tried setup past hand fresh (own ∷ owns) (now ∷ bare setup past hand owns) (Some 0) held left
@@ -174,10 +195,20 @@ took-one setup past hand fresh seat now own owns held left is it one =
       later = subst (λ n. held.faults ≤ n) (sym one.3) (le_refl held.faults);
       caused = λ (some : 1 ≤ 0). absurd (no-one some);
       calls = λ calls makes (some : 1 ≤ 0). absurd (no-one some);
+      row = λ calls makes.
+          let deeds = ap (λ (s : Seat). calls_of_all (deeds_kept s.node.kept)) is ∙ makes.0 (ap (takes fresh) (sym is) ∙ it) in
+          record {
+            made = [];
+            long = refl;
+            some = tt;
+            spent = spent-as _ _ _ _ _ _ (counters_of held) (counters_of left) (zero-more (length calls)) refl refl
+                (subst (λ (c : List DeviceCall). Spent (length c) 0 0 (counters_of held) (counters_of left)) deeds
+                (passed-spent (length (calls_of_all (deeds_kept seat.node.kept))) held left one.4 one.3 one.5));
+          };
     }
 
 pub tried-so : (setup : Setup) (past : List Entry) (hand : Hand) (fresh : Bool) (owns : List defined.Seat) (seats new : List Seat) (found : Option ℕ) (held left : DiskSeen) → seats ≡ bare setup past hand owns → Tries fresh seats new found held left → Tried setup past hand fresh owns new found held left
-tried-so setup past hand fresh [] seats new found held left is nobody = record { count = 0; is = refl; next = refl; rest = tt; later = le_refl held.faults; caused = λ (some : 1 ≤ 0). absurd (no-one some); calls = λ calls makes (some : 1 ≤ 0). absurd (no-one some) }
+tried-so setup past hand fresh [] seats new found held left is nobody = record { count = 0; is = refl; next = refl; rest = tt; later = le_refl held.faults; caused = λ (some : 1 ≤ 0). absurd (no-one some); calls = λ calls makes (some : 1 ≤ 0). absurd (no-one some); row = λ calls makes. record { made = []; long = refl; some = tt; spent = spent-none (counters_of held) } }
 tried-so setup past hand fresh (own ∷ owns) seats new found held left is nobody = cc
 tried-so setup past hand fresh [] seats new found held left is (passes seat not rest) = cc
 tried-so setup past hand fresh [] seats new found held left is (fails seat fallen it one rest) = cc

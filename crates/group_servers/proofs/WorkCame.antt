@@ -8,6 +8,7 @@ use Rattle.disk_model.specs.declared.answers.DiskAnswer.{DiskAnswer}
 use Rattle.disk_model.specs.declared.answers.DiskAnswer.TheVariants.{Memory, Failed, Stopped}
 use Rattle.disk_model.specs.DeviceCalls.{DeviceCall, BreaksOff, LeftOn}
 use Rattle.disk_model.specs.Seen.{DiskSeen}
+use Rattle.disk_model.specs.declared.tally.Tally.{Tally}
 use Rattle.stream_layout.specs.Deeds.{calls_of_all}
 use Rattle.script_lines.specs.declared.line.Server.{Server}
 use Rattle.plain_service.specs.Setups.{Setup}
@@ -28,24 +29,30 @@ use Rattle.group_cluster.proofs.Stepping.{group_at}
 use Rattle.cluster_rounds.specs.declared.cluster.Cluster.{Cluster}
 use Rattle.cluster_rounds.specs.Broken.{Broken}
 use Rattle.cluster_rounds.specs.Came.{Came, Comes, ComesOff, Ended}
+use Rattle.cluster_rounds.specs.Kits.{device_by}
 use Rattle.cluster_rounds.specs.Worlds.{Shows, IsGood, HasState, any_state}
 use Rattle.cluster_rounds.proofs.BrokenSteps.{broken-between}
+use Rattle.cluster_rounds.specs.Seen.{counters_of}
 use Rattle.group_servers.specs.declared.group.Seat.{Seat}
 use Rattle.group_servers.specs.declared.group.Group.{Group}
 use Rattle.group_servers.specs.Falls.{IsFitSeat, TookOver, AllFell, FellPartly, TakesOver, all_wayless}
+use Rattle.group_servers.specs.GroupCounts.{LacksGroup}
 use Rattle.group_servers.specs.GroupKit.{group_kit}
 use Rattle.group_servers.specs.GroupLaws.{group_laws}
 use Rattle.group_servers.specs.GroupNodes.{bare, bare_by, seat_by, seats_by}
+use Rattle.group_servers.specs.GroupUses.{dealt-none}
 use Rattle.group_servers.specs.Prepared.{fell, with_servers}
 use Rattle.group_servers.specs.Seats as code
 use Rattle.group_servers.specs.Steps.{grew, worked_by, EndsWork}
+use Rattle.group_servers.proofs.DealSteps.{Broke, alone-ending}
 use Rattle.group_servers.proofs.EndSteps.{ended-by, work-ends}
 use Rattle.group_servers.proofs.FallSteps.{wayless-bare, fit-seats}
 use Rattle.group_servers.proofs.GoodSteps.{answered-history, accepted-history}
 use Rattle.group_servers.proofs.GroupFiles.{some-of, broke-within, stop-standby}
 use Rattle.group_servers.proofs.GroupSteps.{calls_for}
+use Rattle.group_servers.proofs.RowSteps.{failed-spent, some-made}
 use Rattle.group_servers.proofs.SeatSteps.{at, standby-is}
-use Rattle.group_servers.proofs.WorkFalls.{Broke, work-over, work-partly, work-ended}
+use Rattle.group_servers.proofs.WorkFalls.{work-over, work-partly, work-ended}
 use Rattle.group_servers.proofs.WorkSteps.{ready-for, owed-calls, lacks}
 
 -- An active server without a standby that goes down.
@@ -129,9 +136,10 @@ module _ (n : ℕ) where
 
   -- memory was wanting
   abbrev LacksOff : Setup → State Peers → Cluster (Group n) → Cluster (Group n) → List (List ℕ) → List (List ℕ) → DiskSeen → DiskSeen → Type 0
-  LacksOff setup state old new before after held left = (Broken (group_kit n)) setup state held left new × (held.faults ≤ left.faults)
+  LacksOff setup state old new before after held left =
+      (Broken (group_kit n)) setup state held left new × LacksGroup setup state.world.core.answered new.servers.armed (counters_of held) (counters_of left)
 
-  partly-by : (setup : Setup) (state : State Peers) (hand : Hand) (entry : Entry) (old : Cluster (Group n)) (new : Group n) (fresh : Bool) (before after : List (List ℕ)) (held mid left : DiskSeen) → hand ≡ Ready entry → IsGood (group_kit n) setup (group_at state.peers.seats hand state) → Shows (group_kit n) setup (group_at state.peers.seats hand state) old → held.tally.armed ≡ state.peers.armed → fresh ≡ list_any code.is_fresh old.servers.seats → any_seat is_standby state.peers.seats ≡ true → BrokeIn old held mid → FellPartly fresh old.servers.seats mid left → LacksOff setup (group_at state.peers.seats hand state) old (with_servers old new) before after held left
+  partly-by : (setup : Setup) (state : State Peers) (hand : Hand) (entry : Entry) (old : Cluster (Group n)) (new : Group n) (fresh : Bool) (before after : List (List ℕ)) (held mid left : DiskSeen) → hand ≡ Ready entry → IsGood (group_kit n) setup (group_at state.peers.seats hand state) → Shows (group_kit n) setup (group_at state.peers.seats hand state) old → held.tally.armed ≡ state.peers.armed → fresh ≡ list_any code.is_fresh old.servers.seats → any_seat is_standby state.peers.seats ≡ true → BrokeIn old held mid → FellPartly fresh old.servers.seats new.armed mid left → LacksOff setup (group_at state.peers.seats hand state) old (with_servers old new) before after held left
   partly-by setup state (Ready other) entry old new fresh before after held mid left is good shows count fresh_so standby broke part =
       let now = group_at state.peers.seats (Ready other) state in
       let calls = owed-calls n setup now other old shows refl in
@@ -160,8 +168,8 @@ module _ (n : ℕ) where
 
   -- There is no standby.
 
-  alone-by : (setup : Setup) (state : State Peers) (hand : Hand) (entry : Entry) (old : Cluster (Group n)) (before after : List (List ℕ)) (count : ℕ) (held left : DiskSeen) → hand ≡ Ready entry → IsGood (group_kit n) setup (group_at state.peers.seats hand state) → Shows (group_kit n) setup (group_at state.peers.seats hand state) old → held.tally.armed ≡ state.peers.armed → any_seat is_standby state.peers.seats ≡ false → left.tally.armed ≡ counts.lowered (suc count) held.tally.armed → BreaksOff (LeftOn Failed) (owed_in old) count held.files left.files → held.faults ≤ left.faults → Rose held.faults left.faults → after ≡ before ++ server_line old.servers.acting role.Down ∷ [] → Ended (group_kit n) setup (group_at state.peers.seats hand state) (EndsWork n Failed setup) (with_servers old (fell old.servers)) before after held left
-  alone-by setup state (Ready other) entry old before after count held left is good shows armed alone lowered broke later rose told =
+  alone-by : (setup : Setup) (state : State Peers) (hand : Hand) (entry : Entry) (old : Cluster (Group n)) (before after : List (List ℕ)) (count : ℕ) (held left : DiskSeen) → hand ≡ Ready entry → IsGood (group_kit n) setup (group_at state.peers.seats hand state) → Shows (group_kit n) setup (group_at state.peers.seats hand state) old → held.tally.armed ≡ state.peers.armed → any_seat is_standby state.peers.seats ≡ false → left.tally ≡ counts.passed (suc count) held.tally → left.stops ≡ held.stops → BreaksOff (LeftOn Failed) (owed_in old) count held.files left.files → held.faults ≤ left.faults → Rose held.faults left.faults → after ≡ before ++ server_line old.servers.acting role.Down ∷ [] → Ended (group_kit n) setup (group_at state.peers.seats hand state) (EndsWork n Failed setup) (with_servers old (fell old.servers)) before after held left
+  alone-by setup state (Ready other) entry old before after count held left is good shows armed alone tally stops broke later rose told =
       let now = group_at state.peers.seats (Ready other) state in
       let past = state.world.core.answered in
       let owns = state.peers.seats in
@@ -175,23 +183,37 @@ module _ (n : ℕ) where
       let acting : old.servers.acting ≡ state.peers.acting = ap (λ (servers : Group n). servers.acting) shows.own in
       ended-by n setup now old new before after held left good shows (EndsWork n Failed setup) happened
       (work-ends n setup now old new before after held left good shows (EndsWork n Failed setup) other (λ fails end ends. ends) refl happened some (λ standby. let not = alone in cc) row)
-      (record { between = held.faults; before_it = le_refl held.faults; caused = λ never number. refl; behind_it = later; rose = rose })
+      (record {
+        between = held.faults;
+        before_it = le_refl held.faults;
+        caused = λ never number. refl;
+        behind_it = later;
+        rose = rose;
+        ended = record {
+          past = past;
+          worked = counters_of held;
+          dealt = dealt-none (device_by setup happened) past (counters_of held);
+          ending = alone-ending setup past other count held left
+              (some-made (LeftOn Failed) (calls_of_all (deeds_of setup past other)) count held.files left.files whole)
+              (failed-spent (suc count) held left tally later rose stops);
+        };
+      })
       (record {
         active = refl;
         seats = ap (λ (servers : Group n). servers.seats) shows.own ∙ alone-bare setup past other owns good.steady.good.agree none;
         acting = acting;
         armed = ap (λ (servers : Group n). servers.armed) shows.own ∙ ap is_some unarmed;
-        count = lowered ∙ ap (counts.lowered (suc count)) (armed ∙ unarmed);
+        count = ap (λ (t : Tally). t.armed) tally ∙ ap (counts.lowered (suc count)) (armed ∙ unarmed);
       })
       refl refl shows.history refl refl
       (told ∙ ap (λ (server : Server). before ++ server_line server role.Down ∷ []) acting ∙ ap (λ (names : List Server). before ++ printed (all_stood role.Down names (Stood state.peers.acting role.Down ∷ []))) (sym (named-none is_standby owns none)))
       (λ tells. (broken-between (group_kit n) (group_laws n)) setup now other Failed count held.files left.files whole tells)
-  alone-by setup state Empty entry old before after count held left is good shows armed alone lowered broke later rose told = cc
-  alone-by setup state (Waiting other) entry old before after count held left is good shows armed alone lowered broke later rose told = cc
-  alone-by setup state (Applied other) entry old before after count held left is good shows armed alone lowered broke later rose told = cc
+  alone-by setup state Empty entry old before after count held left is good shows armed alone tally stops broke later rose told = cc
+  alone-by setup state (Waiting other) entry old before after count held left is good shows armed alone tally stops broke later rose told = cc
+  alone-by setup state (Applied other) entry old before after count held left is good shows armed alone tally stops broke later rose told = cc
 
   -- **its deeds fail, and nobody is left**
-  pub failed-alone : (old : Cluster (Group n)) (before after : List (List ℕ)) (count : ℕ) (held left : DiskSeen) → IsSome old.servers.active.replica.owed → old.servers.active.waits ≡ None → list_any code.stands_by old.servers.seats ≡ false → left.tally.armed ≡ counts.lowered (suc count) held.tally.armed → BreaksOff (LeftOn Failed) (owed_in old) count held.files left.files → held.faults ≤ left.faults → Rose held.faults left.faults → after ≡ before ++ server_line old.servers.acting role.Down ∷ [] → ComesOff (group_kit n) any_state (EndsWork n) Failed old (with_servers old (fell old.servers)) before after held left
-  failed-alone old before after count held left some none alone lowered broke later rose told setup state good shows armed so =
+  pub failed-alone : (old : Cluster (Group n)) (before after : List (List ℕ)) (count : ℕ) (held left : DiskSeen) → IsSome old.servers.active.replica.owed → old.servers.active.waits ≡ None → list_any code.stands_by old.servers.seats ≡ false → left.tally ≡ counts.passed (suc count) held.tally → left.stops ≡ held.stops → BreaksOff (LeftOn Failed) (owed_in old) count held.files left.files → held.faults ≤ left.faults → Rose held.faults left.faults → after ≡ before ++ server_line old.servers.acting role.Down ∷ [] → ComesOff (group_kit n) any_state (EndsWork n) Failed old (with_servers old (fell old.servers)) before after held left
+  failed-alone old before after count held left some none alone tally stops broke later rose told setup state good shows armed so =
       let found = ready-for n setup state old shows some none in
-      alone-by setup state state.world.core.hand found.entry old before after count held left found.ready good shows armed (sym (standby-shown setup state old good shows) ∙ alone) lowered broke later rose told
+      alone-by setup state state.world.core.hand found.entry old before after count held left found.ready good shows armed (sym (standby-shown setup state old good shows) ∙ alone) tally stops broke later rose told

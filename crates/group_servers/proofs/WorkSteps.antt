@@ -6,6 +6,7 @@ use Rattle.disk_model.specs.Counts as counts
 use Rattle.disk_model.specs.declared.answers.DiskAnswer.TheVariants.{Memory}
 use Rattle.disk_model.specs.DeviceCalls.{all_applied, BreaksOff, LeftOn}
 use Rattle.disk_model.specs.Seen.{DiskSeen}
+use Rattle.disk_model.specs.declared.tally.Tally.{Tally}
 use Rattle.stream_layout.specs.Deeds.{calls_of_all}
 use Rattle.wire.specs.MessageSpelling.{MessageInRange}
 use Rattle.plain_service.specs.Setups.{Setup}
@@ -37,23 +38,29 @@ use Rattle.cluster_clients.proofs.DispatchSteps.{agents-as}
 use Rattle.cluster_rounds.specs.declared.cluster.Cluster.{Cluster}
 use Rattle.cluster_rounds.specs.Broken.{Broken, LeavesBetween}
 use Rattle.cluster_rounds.specs.Came.{Came, Comes, ComesOff}
+use Rattle.cluster_rounds.specs.Kits.{device_by}
 use Rattle.cluster_rounds.specs.Worlds.{Shows, IsGood, HasState, TellsFiles, LeavesFiles, any_state}
 use Rattle.cluster_rounds.proofs.BrokenSteps.{broken-between, left-between, whole-broken}
 use Rattle.cluster_rounds.proofs.UnaskedSteps.{unasked-same}
+use Rattle.cluster_rounds.specs.Seen.{counters_of}
 use Rattle.group_servers.specs.declared.group.Seat.{Seat}
 use Rattle.group_servers.specs.declared.group.Group.{Group}
+use Rattle.group_servers.specs.Deals.{Dealt}
 use Rattle.group_servers.specs.GroupCounts.{TellsDown}
 use Rattle.group_servers.specs.GroupKit.{group_kit}
 use Rattle.group_servers.specs.GroupLaws.{group_laws}
 use Rattle.group_servers.specs.GroupNodes.{active_by}
+use Rattle.group_servers.specs.GroupUses.{lacks-quiet}
 use Rattle.group_servers.specs.Owing.{LinksAll}
 use Rattle.group_servers.specs.Steps.{grew, worked_by, EndsWork}
 use Rattle.group_servers.specs.Worked.{TellsWorked}
+use Rattle.group_servers.proofs.DealSteps.{done-dealt}
 use Rattle.group_servers.proofs.DoneSteps.{done-by}
 use Rattle.group_servers.proofs.GroupFiles.{work-files, done-stands}
 use Rattle.group_servers.proofs.GroupSteps.{IsStep, calls_for, falls_by, line-works, work-step, work_so, work-comes}
 use Rattle.group_servers.proofs.HearBroken.{posts-none, posts-one}
 use Rattle.group_servers.proofs.HeldSteps.{calls-few}
+use Rattle.group_servers.proofs.RowSteps.{passed-spent}
 
 -- The reply of an entry.
 
@@ -108,12 +115,12 @@ module _ (n : ℕ) where
   -- What an event of the code came to.
 
   -- what a step came to, by what the code was left as
-  pub step-came : (setup : Setup) (state : State Peers) (outcome : Outcome (State Peers)) (event : EventBy Peers) (happened : ℕ → ℕ) (old new : Cluster (Group n)) (before after : List (List ℕ)) (held left : DiskSeen) → Shows (group_kit n) setup state old → IsStep n setup state outcome → ComesTo event happened state outcome → IsCaused held.faults left.faults happened → held.faults ≤ left.faults → TellsDown held.faults left.faults outcome.told → Shows (group_kit n) setup outcome.state new → after ≡ before ++ printed outcome.told → left.tally.armed ≡ outcome.state.peers.armed → (TellsFiles setup state held.files → LeavesFiles setup outcome.state held.files left.files) → Came (group_kit n) setup state event new before after (grew old new) held left
-  step-came setup state outcome event happened old new before after held left shown step comes caused outlives felled shows lines count files = record {
+  pub step-came : (setup : Setup) (state : State Peers) (outcome : Outcome (State Peers)) (event : EventBy Peers) (happened : ℕ → ℕ) (old new : Cluster (Group n)) (before after : List (List ℕ)) (held left : DiskSeen) → Shows (group_kit n) setup state old → IsStep n setup state outcome → ComesTo event happened state outcome → IsCaused held.faults left.faults happened → held.faults ≤ left.faults → TellsDown held.faults left.faults outcome.told → Dealt (device_by setup happened) state.world.core.answered outcome.state.world.core.answered (counters_of held) (counters_of left) → Shows (group_kit n) setup outcome.state new → after ≡ before ++ printed outcome.told → left.tally.armed ≡ outcome.state.peers.armed → (TellsFiles setup state held.files → LeavesFiles setup outcome.state held.files left.files) → Came (group_kit n) setup state event new before after (grew old new) held left
+  step-came setup state outcome event happened old new before after held left shown step comes caused outlives felled dealt shows lines count files = record {
     happened = happened;
     outcome = outcome;
     comes = comes;
-    uses = record { caused = caused; later = outlives; felled = felled };
+    uses = record { caused = caused; later = outlives; felled = felled; dealt = dealt };
     played = record {
       shows = shows;
       good = step.good;
@@ -162,8 +169,8 @@ module _ (n : ℕ) where
         done.1,
       )
 
-  works-by : (setup : Setup) (state : State Peers) (hand : Hand) (entry : Entry) (old : Cluster (Group n)) (node active : Node) (seats : List Seat) (net : List (List ℕ)) (heard : Heard) (before after : List (List ℕ)) (held left : DiskSeen) → hand ≡ Ready entry → IsGood (group_kit n) setup (group_at state.peers.seats hand state) → Shows (group_kit n) setup (group_at state.peers.seats hand state) old → held.tally.armed ≡ state.peers.armed → IsWorked old.servers.active heard node → TellsWorked heard old.net net node active old.servers.seats seats before after → left.files ≡ option_map (all_applied (calls_of_all (deeds_in old.servers.active.replica.owed))) held.files → counts.IsShort (length (calls_of_all (deeds_in old.servers.active.replica.owed))) held.tally.armed → left.tally.armed ≡ counts.lowered (length (calls_of_all (deeds_in old.servers.active.replica.owed))) held.tally.armed → left.faults ≡ held.faults → Came (group_kit n) setup (group_at state.peers.seats hand state) (worked_by n setup) (worked_as old active seats net) before after (grew old (worked_as old active seats net)) held left
-  works-by setup state (Ready other) entry old node active seats net heard before after held left is good shows count worked told files short armed faults =
+  works-by : (setup : Setup) (state : State Peers) (hand : Hand) (entry : Entry) (old : Cluster (Group n)) (node active : Node) (seats : List Seat) (net : List (List ℕ)) (heard : Heard) (before after : List (List ℕ)) (held left : DiskSeen) → hand ≡ Ready entry → IsGood (group_kit n) setup (group_at state.peers.seats hand state) → Shows (group_kit n) setup (group_at state.peers.seats hand state) old → held.tally.armed ≡ state.peers.armed → IsWorked old.servers.active heard node → TellsWorked heard old.net net node active old.servers.seats seats before after → left.files ≡ option_map (all_applied (calls_of_all (deeds_in old.servers.active.replica.owed))) held.files → counts.IsShort (length (calls_of_all (deeds_in old.servers.active.replica.owed))) held.tally.armed → left.tally ≡ counts.passed (length (calls_of_all (deeds_in old.servers.active.replica.owed))) held.tally → left.faults ≡ held.faults → left.stops ≡ held.stops → Came (group_kit n) setup (group_at state.peers.seats hand state) (worked_by n setup) (worked_as old active seats net) before after (grew old (worked_as old active seats net)) held left
+  works-by setup state (Ready other) entry old node active seats net heard before after held left is good shows count worked told files short tally faults stops =
       let now = group_at state.peers.seats (Ready other) state in
       let past = state.world.core.answered in
       let calls = owed-calls setup now other old shows refl in
@@ -173,29 +180,30 @@ module _ (n : ℕ) where
       let stands : falls_by n setup happened other now ≡ false = done-stands state.peers.seats state.peers.armed many 0 refl good.steady.good.armed short_so in
       let done = done-shows setup state other old node active seats net heard before after many good shows worked told in
       step-came setup now (work_so n setup happened other false now) (worked_by n setup) happened old (worked_as old active seats net) before after held left shows (work-step n setup happened now other false good refl stands) (work-comes n setup (worked_by n setup) happened now other false (line-works n setup now other refl) refl stands)
-      (λ never number. refl) (subst (λ (m : ℕ). held.faults ≤ m) (sym faults) (le_refl held.faults)) (λ more. absurd (let same = faults in omega arith)) done.0 done.1
-      (armed ∙ ap (λ c. counts.lowered (length c) held.tally.armed) calls ∙ ap (counts.lowered many) count)
+      (λ never number. refl) (subst (λ (m : ℕ). held.faults ≤ m) (sym faults) (le_refl held.faults)) (λ more. absurd (let same = faults in omega arith))
+      (done-dealt setup past other held left (passed-spent many held left (tally ∙ ap (λ c. counts.passed (length c) held.tally) calls) faults stops)) done.0 done.1
+      (ap (λ (t : Tally). t.armed) tally ∙ ap (λ c. counts.lowered (length c) held.tally.armed) calls ∙ ap (counts.lowered many) count)
       (work-files n setup now other held.files left.files good refl (files ∙ ap (λ c. option_map (all_applied c) held.files) calls))
-  works-by setup state Empty entry old node active seats net heard before after held left is good shows count worked told files short armed faults = cc
-  works-by setup state (Waiting other) entry old node active seats net heard before after held left is good shows count worked told files short armed faults = cc
-  works-by setup state (Applied other) entry old node active seats net heard before after held left is good shows count worked told files short armed faults = cc
+  works-by setup state Empty entry old node active seats net heard before after held left is good shows count worked told files short tally faults stops = cc
+  works-by setup state (Waiting other) entry old node active seats net heard before after held left is good shows count worked told files short tally faults stops = cc
+  works-by setup state (Applied other) entry old node active seats net heard before after held left is good shows count worked told files short tally faults stops = cc
 
   -- **the deeds of the entry in hand are done**
-  pub works : (old : Cluster (Group n)) (node active : Node) (seats : List Seat) (net : List (List ℕ)) (heard : Heard) (before after : List (List ℕ)) (held left : DiskSeen) → IsSome old.servers.active.replica.owed → old.servers.active.waits ≡ None → IsWorked old.servers.active heard node → TellsWorked heard old.net net node active old.servers.seats seats before after → left.files ≡ option_map (all_applied (calls_of_all (deeds_in old.servers.active.replica.owed))) held.files → counts.IsShort (length (calls_of_all (deeds_in old.servers.active.replica.owed))) held.tally.armed → left.tally.armed ≡ counts.lowered (length (calls_of_all (deeds_in old.servers.active.replica.owed))) held.tally.armed → left.faults ≡ held.faults → Comes (group_kit n) any_state (worked_by n) old (worked_as old active seats net) before after (grew old (worked_as old active seats net)) held left
-  works old node active seats net heard before after held left some none worked told files short armed faults setup state good shows count so =
+  pub works : (old : Cluster (Group n)) (node active : Node) (seats : List Seat) (net : List (List ℕ)) (heard : Heard) (before after : List (List ℕ)) (held left : DiskSeen) → IsSome old.servers.active.replica.owed → old.servers.active.waits ≡ None → IsWorked old.servers.active heard node → TellsWorked heard old.net net node active old.servers.seats seats before after → left.files ≡ option_map (all_applied (calls_of_all (deeds_in old.servers.active.replica.owed))) held.files → counts.IsShort (length (calls_of_all (deeds_in old.servers.active.replica.owed))) held.tally.armed → left.tally ≡ counts.passed (length (calls_of_all (deeds_in old.servers.active.replica.owed))) held.tally → left.faults ≡ held.faults → left.stops ≡ held.stops → Comes (group_kit n) any_state (worked_by n) old (worked_as old active seats net) before after (grew old (worked_as old active seats net)) held left
+  works old node active seats net heard before after held left some none worked told files short tally faults stops setup state good shows count so =
       let found = ready-for setup state old shows some none in
-      works-by setup state state.world.core.hand found.entry old node active seats net heard before after held left found.ready good shows count worked told files short armed faults
+      works-by setup state state.world.core.hand found.entry old node active seats net heard before after held left found.ready good shows count worked told files short tally faults stops
 
   -- Where memory runs out in the deeds, or behind them.
 
-  pub work-lacks : (old : Cluster (Group n)) (node : Node) (before after : List (List ℕ)) (count : ℕ) (held left : DiskSeen) → IsSome old.servers.active.replica.owed → old.servers.active.waits ≡ None → BreaksOff (LeftOn Memory) (calls_of_all (deeds_in old.servers.active.replica.owed)) count held.files left.files → left.faults ≡ held.faults → ComesOff (group_kit n) any_state (EndsWork n) Memory old (record old { servers = record old.servers { active = node } }) before after held left
-  work-lacks old node before after count held left some none broke stands setup state good shows armed so =
+  pub work-lacks : (old : Cluster (Group n)) (node : Node) (before after : List (List ℕ)) (count : ℕ) (held left : DiskSeen) → IsSome old.servers.active.replica.owed → old.servers.active.waits ≡ None → BreaksOff (LeftOn Memory) (calls_of_all (deeds_in old.servers.active.replica.owed)) count held.files left.files → left.tally ≡ counts.asked (counts.passed count held.tally) → left.faults ≡ held.faults → left.stops ≡ held.stops → ComesOff (group_kit n) any_state (EndsWork n) Memory old (record old { servers = record old.servers { active = node } }) before after held left
+  work-lacks old node before after count held left some none broke tally stands stops setup state good shows armed so =
       let found = ready-for setup state old shows some none in
       let whole = subst (λ c. BreaksOff (LeftOn Memory) c count held.files left.files) (owed-calls setup state found.entry old shows found.ready) broke in
       let C : Hand → Type 0 = λ hand. LeavesBetween setup (committed_by state.world.core.answered hand) held.files left.files in (
         lacks setup state held left old (record old { servers = record old.servers { active = node } }) good shows refl refl refl refl
             (λ tells. subst C (sym found.ready) ((broken-between (group_kit n) (group_laws n)) setup state found.entry Memory count held.files left.files whole tells)),
-        subst (λ m. held.faults ≤ m) (sym stands) (le_refl held.faults),
+        lacks-quiet setup state.world.core.answered old.servers.armed (suc count) (counters_of held) (counters_of left) (ap (λ (t : Tally). t.changing) tally) stands stops,
       )
 
   untold-by : (setup : Setup) (state : State Peers) (hand : Hand) (entry : Entry) (old new : Cluster (Group n)) (heard : Heard) (node : Node) (held left : DiskSeen) → hand ≡ Ready entry → IsGood (group_kit n) setup (group_at state.peers.seats hand state) → Shows (group_kit n) setup (group_at state.peers.seats hand state) old → held.tally.armed ≡ state.peers.armed → IsWorked old.servers.active heard node → PostsSome heard.to_net old.net new.net → left.files ≡ option_map (all_applied (calls_of_all (deeds_in old.servers.active.replica.owed))) held.files → counts.IsShort (length (calls_of_all (deeds_in old.servers.active.replica.owed))) held.tally.armed → new.agents ≡ old.agents → new.history.entries ≡ old.history.entries → new.now ≡ old.now → (Broken (group_kit n)) setup (group_at state.peers.seats hand state) held left new
@@ -225,11 +233,11 @@ module _ (n : ℕ) where
   untold-by setup state (Waiting other) entry old new heard node held left is good shows armed worked posts files short agents history now = cc
   untold-by setup state (Applied other) entry old new heard node held left is good shows armed worked posts files short agents history now = cc
 
-  pub work-untold : (old new : Cluster (Group n)) (heard : Heard) (node : Node) (before after : List (List ℕ)) (held left : DiskSeen) → IsSome old.servers.active.replica.owed → old.servers.active.waits ≡ None → IsWorked old.servers.active heard node → PostsSome heard.to_net old.net new.net → left.files ≡ option_map (all_applied (calls_of_all (deeds_in old.servers.active.replica.owed))) held.files → counts.IsShort (length (calls_of_all (deeds_in old.servers.active.replica.owed))) held.tally.armed → left.faults ≡ held.faults → new.agents ≡ old.agents → new.history.entries ≡ old.history.entries → new.now ≡ old.now → ComesOff (group_kit n) any_state (EndsWork n) Memory old new before after held left
-  work-untold old new heard node before after held left some none worked posts files short stands agents history now setup state good shows armed so =
+  pub work-untold : (old new : Cluster (Group n)) (heard : Heard) (node : Node) (before after : List (List ℕ)) (held left : DiskSeen) → IsSome old.servers.active.replica.owed → old.servers.active.waits ≡ None → IsWorked old.servers.active heard node → PostsSome heard.to_net old.net new.net → left.files ≡ option_map (all_applied (calls_of_all (deeds_in old.servers.active.replica.owed))) held.files → counts.IsShort (length (calls_of_all (deeds_in old.servers.active.replica.owed))) held.tally.armed → left.tally ≡ counts.passed (length (calls_of_all (deeds_in old.servers.active.replica.owed))) held.tally → left.faults ≡ held.faults → left.stops ≡ held.stops → new.agents ≡ old.agents → new.history.entries ≡ old.history.entries → new.now ≡ old.now → ComesOff (group_kit n) any_state (EndsWork n) Memory old new before after held left
+  work-untold old new heard node before after held left some none worked posts files short tally stands stops agents history now setup state good shows armed so =
       let found = ready-for setup state old shows some none in (
         untold-by setup state state.world.core.hand found.entry old new heard node held left found.ready good shows armed worked posts files short agents history now,
-        subst (λ m. held.faults ≤ m) (sym stands) (le_refl held.faults),
+        lacks-quiet setup state.world.core.answered new.servers.armed (length (calls_of_all (deeds_in old.servers.active.replica.owed))) (counters_of held) (counters_of left) (ap (λ (t : Tally). t.changing) tally) stands stops,
       )
 
   -- What is posted is in range.

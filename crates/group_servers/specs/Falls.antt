@@ -1,5 +1,6 @@
 -- Words of bodies alone: servers that go on where the active one went down, on their parts.
 use Rattle.std.specs.Prelude.{◌≡◌, ℕ, zero, suc, ◌+◌, ◌⊎◌, Bool, false, Some, None, IfSome, Result, Ok, Err, List, [], ◌∷◌, ◌++◌, map, length}
+use Rattle.disk_model.specs.Counts.{disarmed}
 use Rattle.disk_model.specs.Seen.{DiskSeen}
 use Rattle.disk_model.specs.declared.answers.DiskAnswer.{DiskAnswer}
 use Rattle.disk_model.specs.declared.answers.DiskAnswer.TheVariants.{Memory, Failed, Stopped}
@@ -32,6 +33,8 @@ pub record IsDisarmed (held start : DiskSeen) : Type 0 where
   pub files : start.files ≡ held.files
   pub faults : start.faults ≡ held.faults
   pub armed : start.tally.armed ≡ None
+  pub tally : start.tally ≡ disarmed held.tally
+  pub stops : start.stops ≡ held.stops
 
 -- a server's service is fit, and it owes no deeds
 abbrev pub IsFitNode : Node → Type 0
@@ -66,8 +69,9 @@ pub record AllFell {n : ℕ} (fresh : Bool) (old new : Group n) (before after : 
   pub unarmed : new.armed ≡ false
   pub lines : after ≡ before ++ fallen_lines old.acting (takers fresh old.seats)
 
--- or memory was wanting, as one of them tried, or behind it
-pub record FellPartly (fresh : Bool) (seats : List Seat) (held left : DiskSeen) : Type 0 where
+-- or memory was wanting, as one of them tried, or behind it: no server is armed
+pub record FellPartly (fresh : Bool) (seats : List Seat) (armed : Bool) (held left : DiskSeen) : Type 0 where
+  pub unarmed : armed ≡ false
   pub start : DiskSeen
   pub started : IsDisarmed held start
   pub part :
@@ -77,6 +81,6 @@ pub record FellPartly (fresh : Bool) (seats : List Seat) (held left : DiskSeen) 
 -- a takeover, with its lines in the place of those that told all ends, by how it ended
 abbrev pub TakesOver : {n : ℕ} → Bool → Result (Unit {0}) DiskAnswer → Group n → Group n → List (List ℕ) → List (List ℕ) → DiskSeen → DiskSeen → Type 0
 TakesOver fresh (Ok done) old new before after held left = TookOver fresh old new before after held left
-TakesOver fresh (Err Memory) old new before after held left = FellPartly fresh old.seats held left
+TakesOver fresh (Err Memory) old new before after held left = FellPartly fresh old.seats new.armed held left
 TakesOver fresh (Err Failed) old new before after held left = AllFell fresh old new before after held left
 TakesOver fresh (Err Stopped) old new before after held left = ⊥

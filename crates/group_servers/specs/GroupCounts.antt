@@ -1,13 +1,25 @@
 -- Words of public clauses: what the disk of servers counted in an event, by the works that failed.
-use Rattle.std.specs.Prelude.{◌≡◌, ℕ, ◌<◌, ◌≤◌, Bool, true, false, nat_lt, List}
-use Rattle.std.specs.List.{list_any}
+use Rattle.std.specs.Prelude.{◌≡◌, ℕ, ◌+◌, ◌<◌, ◌≤◌, Bool, true, false, ◌&&◌, nat_lt, if◌then◌else◌, Option, List, [], ◌∷◌, length}
+use Rattle.std.specs.List.{AllByRecursion, list_any}
 use Rattle.ais_values.specs.Causes.{Rose}
+use Rattle.disk_model.specs.Counts.{Counters}
+use Rattle.disk_model.specs.Disk.{Files}
 use Rattle.disk_model.specs.Seen.{DiskSeen}
 use Rattle.script_lines.specs.declared.line.Line.{Line}
 use Rattle.script_lines.specs.declared.line.Line.TheVariants as line
+use Rattle.plain_service.specs.Setups.{Setup}
+use Rattle.cluster_facts.specs.Types.{Entry}
+use Rattle.cluster_facts.specs.History.{committed_by}
 use Rattle.cluster_events.specs.declared.lines.ServerRole.TheVariants.{Down}
 use Rattle.cluster_events.specs.Lines.{Told, Stood}
-use Rattle.cluster_events.specs.Devices.{IsCaused}
+use Rattle.cluster_events.specs.Outcomes.{Outcome}
+use Rattle.cluster_events.specs.Servers.{State}
+use Rattle.cluster_events.specs.Devices.{Device, IsCaused}
+use Rattle.group_cluster.specs.Seats.{Peers, any_seat, count_seats, is_standby, same_server}
+use Rattle.group_cluster.specs.Falling.{catches, caught_hand, caught_seats, is_fresh}
+use Rattle.cluster_rounds.specs.Kits.{device_by}
+use Rattle.cluster_lines.specs.Playing.{LooksBy}
+use Rattle.group_servers.specs.Deals.{AreSome, Dealt, Ending, LackedAt, Spent, fell_behind, total}
 
 -- whether the line tells that a server is down
 abbrev pub is_down : Told → Bool
@@ -30,25 +42,118 @@ outlives standbys _ = false
 abbrev pub FellIn : ℕ → Line → ℕ → ℕ → List Told → Type 0
 FellIn standbys next before now told = before < now → (outlives standbys next ≡ true) × (list_any is_down told ≡ true)
 
--- an event was done: a work failed only where the count of faults rose, and there the lines tell that a server is down
-pub record UsesGroup (happened : ℕ → ℕ) (told : List Told) (held left : DiskSeen) : Type 0 where
-  pub caused : IsCaused held.faults left.faults happened
-  pub later : held.faults ≤ left.faults
-  pub felled : TellsDown held.faults left.faults told
+-- an event was done: a work failed only where the count of faults rose, and there the lines tell that a server is down; and each entry
+-- that was answered was worked once
+pub record UsesGroup (setup : Setup) (happened : ℕ → ℕ) (old new : List Entry) (told : List Told) (before after : Counters) : Type 0 where
+  pub caused : IsCaused before.faults after.faults happened
+  pub later : before.faults ≤ after.faults
+  pub felled : TellsDown before.faults after.faults told
+  pub dealt : Dealt (device_by setup happened) old new before after
 
--- the same of a line, by how many standbys there were
-pub record UsesLine (standbys : ℕ) (next : Line) (happened : ℕ → ℕ) (told : List Told) (held left : DiskSeen) : Type 0 where
-  pub caused : IsCaused held.faults left.faults happened
-  pub later : held.faults ≤ left.faults
-  pub felled : FellIn standbys next held.faults left.faults told
+-- the works that were done up to a history, and the one in which the event ended
+pub record EndedIn (device : Device) (old : List Entry) (before after : Counters) : Type 0 where
+  pub past : List Entry
+  pub worked : Counters
+  pub dealt : Dealt device old past before worked
+  pub ending : Ending device past worked after
 
 -- an event ended by a fault: the works that failed before it raised the count up to one between
-pub record FaultsGroup (happened : ℕ → ℕ) (held left : DiskSeen) : Type 0 where
+pub record FaultsGroup (setup : Setup) (happened : ℕ → ℕ) (old : List Entry) (before after : Counters) : Type 0 where
   pub between : ℕ
-  pub before_it : held.faults ≤ between
-  pub caused : IsCaused held.faults between happened
-  pub behind_it : between ≤ left.faults
-  pub rose : Rose between left.faults
+  pub before_it : before.faults ≤ between
+  pub caused : IsCaused before.faults between happened
+  pub behind_it : between ≤ after.faults
+  pub rose : Rose between after.faults
+  pub ended : EndedIn (device_by setup happened) old before after
+
+-- memory was wanting behind the works that were done, in whichever works the disk failed
+pub record LacksGroup (setup : Setup) (old : List Entry) (armed : Bool) (before after : Counters) : Type 0 where
+  pub happened : ℕ → ℕ
+  pub past : List Entry
+  pub worked : Counters
+  pub dealt : Dealt (device_by setup happened) old past before worked
+  pub lacked : LackedAt (device_by setup happened) past armed worked after
+
+-- Behind a crash of the active server: the history that goes on, and the calls of the deeds that standbys keep, which is none where one of
+-- them keeps none.
+
+abbrev pub history_behind : State Peers → List Entry
+history_behind state =
+    let hand = state.world.core.hand in
+    committed_by state.world.core.answered (caught_hand (catches state.peers.seats hand) hand)
+
+abbrev pub last_calls : Device → List Entry → ℕ
+last_calls device [] = 0
+last_calls device (entry ∷ past) = device.calls past entry
+
+abbrev pub kept_calls : Device → State Peers → ℕ
+kept_calls device state =
+    if any_seat is_fresh (caught_seats (catches state.peers.seats state.world.core.hand) state.peers.seats) then 0
+    else last_calls device (history_behind state)
+
+-- a standby took over, behind those that failed
+pub record Crashed (device : Device) (state : State Peers) (before after : Counters) : Type 0 where
+  pub row : List ℕ
+  pub fell : device.fails (length (history_behind state)) ≡ fell_behind row
+  pub some : AllByRecursion (AreSome (kept_calls device state)) row
+  pub spent : Spent (total row + kept_calls device state) (length row) 0 before after
+
+-- where the crash takes the active server down
+abbrev pub CountsCrash : Bool → Device → State Peers → Counters → Counters → Type 0
+CountsCrash true device state before after = Crashed device state before after
+CountsCrash false device state before after = Spent 0 0 0 before after
+
+-- how many fell before the last one
+abbrev pub fell_first : List ℕ → ℕ
+fell_first [] = 0
+fell_first (one ∷ row) = fell_behind row
+
+-- or all of them failed
+pub record CrashEnded (device : Device) (state : State Peers) (before after : Counters) : Type 0 where
+  pub row : List ℕ
+  pub over : 1 ≤ length row
+  pub fell : device.fails (length (history_behind state)) ≡ fell_first row
+  pub some : AllByRecursion (AreSome (kept_calls device state)) row
+  pub spent : Spent (total row) (length row) 0 before after
+
+-- files of the disk were shown
+pub record CountsShown (next : Line) (held : Option Files) (before after : Counters) : Type 0 where
+  pub looks : LooksBy next held true before.tally after.tally
+  pub faults : after.faults ≡ before.faults
+  pub stops : after.stops ≡ before.stops
+
+-- what a line makes the disk count that tells these files: the calls that it asks for, and no others
+abbrev pub CountsLine : Line → Device → Option Files → (old new : State Peers) → Counters → Counters → Type 0
+CountsLine line.Work device held old new before after =
+    Dealt device old.world.core.answered new.world.core.answered before after
+CountsLine line.Settle device held old new before after =
+    Dealt device old.world.core.answered new.world.core.answered before after
+CountsLine (line.Crash server) device held old new before after =
+    CountsCrash (same_server server old.peers.acting && any_seat is_standby old.peers.seats) device old before after
+CountsLine line.Files device held old new before after = CountsShown line.Files held before after
+CountsLine (line.Cat name) device held old new before after = CountsShown (line.Cat name) held before after
+CountsLine _ device held old new before after = Spent 0 0 0 before after
+
+-- and where a fault ends it
+abbrev pub CountsEnd : Line → Device → State Peers → Counters → Counters → Type 0
+CountsEnd (line.Crash server) device state before after = CrashEnded device state before after
+CountsEnd _ device state before after = EndedIn device state.world.core.answered before after
+
+-- the same of a line
+pub record UsesLine (setup : Setup) (next : Line) (happened : ℕ → ℕ) (state : State Peers) (outcome : Outcome (State Peers)) (held : Option Files)
+    (before after : Counters) : Type 0 where
+  pub caused : IsCaused before.faults after.faults happened
+  pub later : before.faults ≤ after.faults
+  pub felled : FellIn (count_seats is_standby state.peers.seats) next before.faults after.faults outcome.told
+  pub counts : CountsLine next (device_by setup happened) held state outcome.state before after
+
+pub record FaultsLine (setup : Setup) (next : Line) (happened : ℕ → ℕ) (state : State Peers) (before after : Counters) : Type 0 where
+  pub between : ℕ
+  pub before_it : before.faults ≤ between
+  pub caused : IsCaused before.faults between happened
+  pub behind_it : between ≤ after.faults
+  pub rose : Rose between after.faults
+  pub ended : CountsEnd next (device_by setup happened) state before after
 
 -- the count of faults rose
 pub record RisesGroup (held left : DiskSeen) : Type 0 where

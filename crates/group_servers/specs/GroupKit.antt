@@ -11,17 +11,17 @@ use Rattle.cluster_events.specs.Ending.{EndAt}
 use Rattle.mirror.specs.Replicas.{down}
 use Rattle.mirror.specs.Pairing.{alone}
 use Rattle.cluster_facts.specs.History.{Empty}
-use Rattle.group_cluster.specs.Seats.{Peers, IsGroup, count_seats, is_standby}
+use Rattle.group_cluster.specs.Seats.{Peers, IsGroup}
 use Rattle.group_cluster.specs.Group.{group}
 use Rattle.group_cluster.specs.Running.{GroupHappens}
 use Rattle.group_cluster.specs.Ended.{EndsGroupStep, GroupEnds}
 use Rattle.cluster_rounds.specs.Kits.{Kit}
-use Rattle.cluster_rounds.specs.Seen.{TellsFiles}
+use Rattle.cluster_rounds.specs.Seen.{TellsFiles, counters_of}
 use Rattle.cluster_rounds.specs.Worlds.{LeavesFiles}
 use Rattle.cluster_rounds.specs.Broken.{LeavesBetween}
 use Rattle.cluster_rounds.specs.Scripts.{Script}
 use Rattle.group_servers.specs.declared.group.Group.{Group}
-use Rattle.group_servers.specs.GroupCounts.{FaultsGroup, RisesGroup, UsesGroup, UsesLine}
+use Rattle.group_servers.specs.GroupCounts.{FaultsGroup, FaultsLine, LacksGroup, RisesGroup, UsesGroup, UsesLine}
 use Rattle.group_servers.specs.GroupNodes.{bare, servers_by}
 
 -- After a fault that no server survives the active one is down, the others are as they are left, and nothing is on the way; no server is
@@ -54,9 +54,10 @@ group_kit n = record {
   Between = λ setup past held left. LeavesBetween setup past held.files left.files;
   EndsAt = group_ends;
   Fell = λ setup state servers left. FellGroup setup state servers left.tally.armed;
-  Uses = λ setup happened state outcome held left. UsesGroup happened outcome.told held left;
-  Faults = λ setup happened state end held left. FaultsGroup happened held left;
-  Lacks = λ setup state servers held left. held.faults ≤ left.faults;
+  Uses = λ setup happened state outcome held left.
+      UsesGroup setup happened state.world.core.answered outcome.state.world.core.answered outcome.told (counters_of held) (counters_of left);
+  Faults = λ setup happened state end held left. FaultsGroup setup happened state.world.core.answered (counters_of held) (counters_of left);
+  Lacks = λ setup state servers held left. LacksGroup setup state.world.core.answered servers.armed (counters_of held) (counters_of left);
   Outlives = λ held left. held.faults ≤ left.faults;
   Rises = RisesGroup;
   Wild = λ servers net entries seen. ⊥;
@@ -69,6 +70,7 @@ group_script = record {
   Shares = λ next state. Unit {0};
   Ends = GroupEnds;
   Allows = λ line. Unit {0};
-  Uses = λ next setup happened state outcome held left. UsesLine (count_seats is_standby state.peers.seats) next happened outcome.told held left;
-  Faults = λ next setup happened state end held left. FaultsGroup happened held left;
+  Uses = λ next setup happened state outcome held left.
+      UsesLine setup next happened state outcome held.files (counters_of held) (counters_of left);
+  Faults = λ next setup happened state end held left. FaultsLine setup next happened state (counters_of held) (counters_of left);
 }

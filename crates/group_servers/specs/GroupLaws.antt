@@ -1,6 +1,6 @@
 -- Servers beside an active one are such servers as a cluster may have.
 use Rattle.std.specs.Prelude.{◌≡◌, ℕ, suc, true, false, ◌||◌, if◌then◌else◌, List, [], ◌∷◌, length, IfSome}
-use Rattle.std.proofs.Common.{refl, sym, subst, inl, inr, le_refl, le_trans, ◌∙◌}
+use Rattle.std.proofs.Common.{refl, ap, sym, subst, inl, inr, le_refl, le_trans, ◌∙◌}
 use Rattle.cluster_facts.specs.Types.{Entry, Called, Receipted, Answer}
 use Rattle.cluster_facts.specs.Messages.{Posting, Spelled, messages_in, sent_by}
 use Rattle.cluster_facts.specs.Service.{Plain, IsPlain}
@@ -8,7 +8,7 @@ use Rattle.cluster_facts.specs.History.{Hand, Empty, Waiting, Applied, Ready, co
 use Rattle.cluster_facts.specs.World.{World, knows}
 use Rattle.cluster_events.specs.Lines.{Told, Posted, Committed}
 use Rattle.cluster_events.specs.Servers.{State}
-use Rattle.cluster_events.specs.Devices.{Device, answered_in}
+use Rattle.cluster_events.specs.Devices.{Device}
 use Rattle.cluster_events.specs.Serving.{IsCarried}
 use Rattle.event_text.specs.Texts.{printed}
 use Rattle.group_cluster.specs.Answering.{net_answering, lines_answering}
@@ -24,15 +24,19 @@ use Rattle.group_cluster.proofs.Saying.{says-borne, group-serves}
 use Rattle.cluster_rounds.specs.PartlyDone.{SaysUnasked}
 use Rattle.cluster_rounds.specs.Timely.{AreTimely}
 use Rattle.cluster_rounds.specs.Measured.{Measured, IsMeasured}
-use Rattle.cluster_rounds.specs.Kits.{IsKit}
+use Rattle.cluster_rounds.specs.Kits.{IsKit, calm_servers}
+use Rattle.cluster_rounds.specs.Resting.{Rests}
+use Rattle.cluster_rounds.specs.Resting.Rests.{begun, moved, accepted}
+use Rattle.plain_service.specs.Setups.{Setup}
 use Rattle.cluster_rounds.proofs.UnaskedSteps.{waits-same, asks-none, asks-both}
 use Rattle.cluster_rounds.proofs.HearSteps.{measured-entry}
 use Rattle.cluster_clients.proofs.ToldLines.{not-less}
 use Rattle.plain_service.specs.Storing.{files_of}
 use Rattle.cluster_events.proofs.Devices.{rose-later}
 use Rattle.cluster_rounds.proofs.FilesSteps.{between-behind, left-between, left-both, left-same, left-told}
+use Rattle.cluster_rounds.specs.Seen.{counters_of}
 use Rattle.group_servers.specs.GroupKit.{group_kit}
-use Rattle.group_servers.specs.GroupUses.{faults-behind, stood-later, uses-both, uses-none, uses-printed}
+use Rattle.group_servers.specs.GroupUses.{faults-behind, lacks-behind, lacks-quiet, stood-later, uses-both, uses-none, uses-printed}
 
 -- No step of the servers asks anything.
 
@@ -166,6 +170,13 @@ accept-measured entry state empty =
     let M : Hand → Type 0 = λ hand. Measured (length (committed_by past hand)) new net net (commitment sent past (Waiting entry)) in
     subst M (sym empty) (looked-measured sent past net entry)
 
+-- what asks no disk answers no entry
+pub rests-answered : (n : ℕ) (setup : Setup) {state new : State Peers} → Rests (calm_servers (group_kit n) setup) state new
+    → new.world.core.answered ≡ state.world.core.answered
+rests-answered n setup begun = refl
+rests-answered n setup (moved rests new core peers) = ap (λ (c : Core). c.answered) core ∙ rests-answered n setup rests
+rests-answered n setup (accepted rests entry empty) = rests-answered n setup rests
+
 pub group_laws : (n : ℕ) → IsKit (group_kit n)
 group_laws n = record {
   serves = λ plain device is_plain. group-serves plain device is_plain;
@@ -186,17 +197,25 @@ group_laws n = record {
   shown = λ one beside. refl;
   read_armed = λ peers one two beside read is. read.armed ∙ is;
   read_left = λ setup state one two beside read tells. read.files ∙ left-same setup state one.files tells;
-  read_lacks = λ setup state servers one two beside read faults. stood-later one two faults;
-  read_outlives = λ one two beside read faults. stood-later one two faults;
+  read_lacks = λ setup state servers one two beside read faults.
+      lacks-quiet setup state.world.core.answered servers.armed 0 (counters_of one) (counters_of two) read.changing faults read.stops;
+  read_outlives = λ one two beside read faults. stood-later (counters_of one) (counters_of two) faults;
   read_rises = λ one two beside read later rose. record { later = later; rose = rose };
-  unused = λ setup state outcome seen same. uses-none seen outcome.told;
+  unused = λ setup state outcome seen rests.
+      uses-none setup state.world.core.answered outcome.state.world.core.answered outcome.told (counters_of seen) (rests-answered n setup rests);
   used_both = λ setup one two state first second held told left before after.
-      uses-both (answered_in first.state) one two first.told second.told held told left before after;
-  used_printed = λ setup happened state outcome held left uses. uses-printed happened outcome.told held left uses;
+      uses-both setup one two state.world.core.answered first.state.world.core.answered second.state.world.core.answered first.told second.told
+      (counters_of held) (counters_of told) (counters_of left) before after;
+  used_printed = λ setup happened state outcome held left uses.
+      uses-printed setup happened state.world.core.answered outcome.state.world.core.answered outcome.told (counters_of held) (counters_of left) uses;
   faults_behind = λ setup one two state first end held told left before after.
-      faults-behind (answered_in first.state) one two first.told held told left before after;
-  lacks_same = λ setup state servers seen. le_refl seen.faults;
-  lacks_behind = λ setup happened state first servers held told left before after. le_trans before.later after;
+      faults-behind setup one two state.world.core.answered first.state.world.core.answered first.told
+      (counters_of held) (counters_of told) (counters_of left) before after;
+  lacks_same = λ setup state servers seen.
+      lacks-quiet setup state.world.core.answered servers.armed 0 (counters_of seen) (counters_of seen) refl refl refl;
+  lacks_behind = λ setup happened state first servers held told left before after.
+      lacks-behind setup happened state.world.core.answered first.state.world.core.answered first.told servers.armed
+      (counters_of held) (counters_of told) (counters_of left) before after;
   stands = λ seen. le_refl seen.faults;
   further = λ one two three first second. le_trans first second;
   rises = λ one two three first second. record {

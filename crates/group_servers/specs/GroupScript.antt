@@ -1,8 +1,11 @@
 -- The lines of a script over a group lead to what they lead to over any.
-use Rattle.std.specs.Prelude.{ℕ, length, ◌≡◌, List}
+use Rattle.std.specs.Prelude.{ℕ, length, ◌≡◌, true, false, Option}
 use Rattle.std.proofs.Common.{refl, arith}
+use Rattle.disk_model.specs.Counts.{Counters}
+use Rattle.disk_model.specs.Disk.{Files}
 use Rattle.disk_model.specs.Seen.{DiskSeen}
 use Rattle.disk_model.specs.declared.answers.DiskAnswer.TheVariants.{Stopped}
+use Rattle.plain_service.specs.Setups.{Setup}
 use Rattle.script_lines.specs.declared.line.Line.{Line}
 use Rattle.script_lines.specs.declared.line.Line.TheVariants as line
 use Rattle.cluster_facts.specs.Service.{Plain}
@@ -15,10 +18,14 @@ use Rattle.cluster_events.proofs.NeverEnds.{settle-never}
 use Rattle.group_cluster.specs.Seats.{Peers, hand_number}
 use Rattle.group_cluster.specs.Group.{group}
 use Rattle.group_cluster.specs.Running.{GroupHappens}
+use Rattle.cluster_rounds.specs.Kits.{device_by}
+use Rattle.cluster_rounds.specs.Seen.{counters_of}
 use Rattle.cluster_lines.specs.Following.{IsInHand, IsScript}
-use Rattle.cluster_events.specs.Lines.{Told}
-use Rattle.group_servers.specs.GroupCounts.{UsesLine}
-use Rattle.group_servers.specs.GroupUses.{stood-later}
+use Rattle.cluster_lines.specs.Lines.{is_own, shows_files}
+use Rattle.cluster_lines.specs.Playing.{LooksBy}
+use Rattle.group_servers.specs.GroupCounts.{CountsLine, UsesLine}
+use Rattle.group_servers.specs.GroupLaws.{rests-answered}
+use Rattle.group_servers.specs.GroupUses.{dealt-same, spent-none, stood-later}
 use Rattle.group_servers.specs.GroupKit.{group_ends, group_kit, group_script}
 
 shares : (plain : Plain) (shelf : Shelf) (device : Device) (next : Line) (state : State Peers) (outcome : Outcome (State Peers))
@@ -35,14 +42,35 @@ in-hand past (Waiting entry) = λ none. cc
 in-hand past (Applied entry) = λ none. cc
 in-hand past (Ready entry) = λ none. cc
 
--- where the count of faults stood nothing more is said
-pub calm-uses : {standbys : ℕ} (next : Line) (told : List Told) (held left : DiskSeen) → left.faults ≡ held.faults
-    → UsesLine standbys next (λ number. 0) told held left
-calm-uses next told held left same = record {
+-- where the count of faults stood, what a line counted is what is asked
+pub calm-uses : (setup : Setup) (next : Line) (state : State Peers) (outcome : Outcome (State Peers)) (held left : DiskSeen) → left.faults ≡ held.faults
+    → CountsLine next (device_by setup (λ number. 0)) held.files state outcome.state (counters_of held) (counters_of left)
+    → UsesLine setup next (λ number. 0) state outcome held.files (counters_of held) (counters_of left)
+calm-uses setup next state outcome held left same counts = record {
   caused = λ never number. refl;
-  later = stood-later held left same;
+  later = stood-later (counters_of held) (counters_of left) same;
   felled = λ less. absurd (let is = same in omega arith);
+  counts = counts;
 }
+
+-- a line that is not the servers' own asks nothing of the disk, unless it shows files
+unasked-counts : (next : Line) (device : Device) (held : Option Files) (old new : State Peers) (seen : Counters) → is_own next ≡ false
+    → shows_files next ≡ false → new.world.core.answered ≡ old.world.core.answered → CountsLine next device held old new seen seen
+unasked-counts line.Work device held old new seen shared unshown same = cc
+unasked-counts (line.Crash server) device held old new seen shared unshown same = cc
+unasked-counts line.Settle device held old new seen shared unshown same =
+    dealt-same device old.world.core.answered new.world.core.answered seen same
+unasked-counts line.Files device held old new seen shared unshown same = cc
+unasked-counts (line.Cat name) device held old new seen shared unshown same = cc
+unasked-counts _ device held old new seen shared unshown same = spent-none seen
+
+-- one that shows files reads them
+shown-counts : (next : Line) (device : Device) (old new : State Peers) (one two : DiskSeen) → LooksBy next one.files true one.tally two.tally
+    → shows_files next ≡ true → two.faults ≡ one.faults → two.stops ≡ one.stops
+    → CountsLine next device one.files old new (counters_of one) (counters_of two)
+shown-counts line.Files device old new one two looks shown faults stops = record { looks = looks; faults = faults; stops = stops }
+shown-counts (line.Cat name) device old new one two looks shown faults stops = record { looks = looks; faults = faults; stops = stops }
+shown-counts _ device old new one two looks shown faults stops = cc
 
 pub group_follows : (n : ℕ) → IsScript (group_kit n) group_script
 group_follows n = record {
@@ -52,8 +80,24 @@ group_follows n = record {
       absurd (settle-never plain (group plain device) (group_ends Stopped plain device) (λ now last stops. stops) state whole ends);
   in_hand = λ plain device state stands. in-hand (length state.world.core.answered) state.world.core.hand;
   told = λ setup next state seen shows stands tells. tells;
-  settled = λ setup happened state outcome held left uses. record { caused = uses.caused; later = uses.later; felled = λ less. (refl, uses.felled less) };
-  settle_faults = λ setup happened state end held left faults. faults;
-  unused = λ next setup state outcome seen shared shown same. calm-uses next outcome.told seen seen refl;
-  read = λ next setup state outcome one two beside looks shared shows read faults same. calm-uses next outcome.told one two faults;
+  settled = λ setup happened state outcome held left uses. record {
+    caused = uses.caused;
+    later = uses.later;
+    felled = λ less. (refl, uses.felled less);
+    counts = uses.dealt;
+  };
+  settle_faults = λ setup happened state end held left faults. record {
+    between = faults.between;
+    before_it = faults.before_it;
+    caused = faults.caused;
+    behind_it = faults.behind_it;
+    rose = faults.rose;
+    ended = faults.ended;
+  };
+  unused = λ next setup state outcome seen shared unshown rests.
+      calm-uses setup next state outcome seen seen refl
+      (unasked-counts next (device_by setup (λ number. 0)) seen.files state outcome.state (counters_of seen) shared unshown (rests-answered n setup rests));
+  read = λ next setup state outcome one two beside looks shared shown read faults rests.
+      calm-uses setup next state outcome one two faults
+      (shown-counts next (device_by setup (λ number. 0)) state outcome.state one two looks shown faults read.stops);
 }

@@ -1,15 +1,168 @@
 -- What the disk of servers counted in events in a row.
-use Rattle.std.proofs.Common.{◌≡◌, ℕ, ◌<◌, ◌≤◌, inl, inr, ◌||◌, List, [], ◌∷◌, ◌++◌, refl, ap, sym, ◌∙◌, subst, arith, le_refl, le_trans}
+use Rattle.std.specs.Prelude.{◌≡◌, ℕ, zero, suc, ◌+◌, ◌<◌, ◌≤◌, Bool, ◌||◌, List, [], ◌∷◌, ◌++◌, length}
+use Rattle.std.proofs.Common.{inl, inr, refl, ap, sym, ◌∙◌, subst, arith, le_refl, le_trans}
 use Rattle.std.proofs.lemmas.Bool.{or_left, or_right}
-use Rattle.std.specs.List.{list_any}
+use Rattle.std.specs.List.{AllByRecursion, list_any}
 use Rattle.std.proofs.Math.Nat.{eq-or-lt_of_le}
 use Rattle.std.proofs.lemmas.List.Folds.{list_any-append}
-use Rattle.disk_model.specs.Seen.{DiskSeen}
+use Rattle.ais_values.specs.Causes.{Rose, one_more}
+use Rattle.disk_model.specs.Counts.{Counters, many_more}
+use Rattle.plain_service.specs.Setups.{Setup}
 use Rattle.cluster_facts.specs.Lists.{without}
+use Rattle.cluster_facts.specs.Types.{Entry}
 use Rattle.cluster_events.specs.Lines.{Told, Ignored, is_ignored}
-use Rattle.cluster_events.specs.Devices.{spliced}
-use Rattle.cluster_events.proofs.Devices.{caused-both}
-use Rattle.group_servers.specs.GroupCounts.{FaultsGroup, TellsDown, UsesGroup, is_down}
+use Rattle.cluster_events.specs.Devices.{AgreesIn, Device, spliced}
+use Rattle.cluster_events.proofs.Devices.{agrees-first, agrees-second, caused-both}
+use Rattle.cluster_rounds.specs.Kits.{device_by}
+use Rattle.group_servers.specs.Deals.{AreDeals, Deal, Dealt, Falling, IsWay, LackedAt, Quiet, RoseTimes, Spent}
+use Rattle.group_servers.specs.Deals.{calls_in, faults_by, faults_in, of_all, stops_in}
+use Rattle.group_servers.specs.Deals.AreDeals.{none, more}
+use Rattle.group_servers.specs.GroupCounts.{EndedIn, FaultsGroup, LacksGroup, TellsDown, UsesGroup, is_down}
+
+-- Counts that rose.
+
+plus-zero : (n : ℕ) → n ≡ n + 0
+plus-zero n = omega arith
+
+plus-suc : (a b : ℕ) → suc (a + b) ≡ a + suc b
+plus-suc a b = omega arith
+
+pub more-more : (one two count : ℕ) → many_more two (many_more one count) ≡ many_more (one + two) count
+more-more one zero count = ap (λ n. many_more n count) (plus-zero one)
+more-more one (suc two) count = ap one_more (more-more one two count) ∙ ap (λ n. many_more n count) (plus-suc one two)
+
+times-both : (one two before between now : ℕ) → RoseTimes one before between → RoseTimes two between now → RoseTimes (one + two) before now
+times-both one zero before between now first second =
+    subst (λ n. RoseTimes n before now) (plus-zero one) (subst (λ n. RoseTimes one before n) (sym second) first)
+times-both one (suc two) before between now first second =
+    let rest : RoseTimes (suc (one + two)) before now = (second.0, times-both one two before between second.0 first second.1, second.2, second.3) in
+    subst (λ n. RoseTimes n before now) (plus-suc one two) rest
+
+times-later : (times before now : ℕ) → RoseTimes times before now → before ≤ now
+times-later zero before now is = subst (λ n. before ≤ n) (sym is) (le_refl before)
+times-later (suc times) before now rose = le_trans (times-later times before rose.0 rose.1) rose.3
+
+-- a count that rose in one call
+pub rose-once : (before now : ℕ) → before ≤ now → Rose before now → RoseTimes 1 before now
+rose-once before now later rose = (before, refl, rose, later)
+
+-- What was spent.
+
+pub spent-none : (seen : Counters) → Spent 0 0 0 seen seen
+spent-none seen = record { changing = refl; reading = refl; faults = refl; stops = refl }
+
+pub spent-both : (a b f g s t : ℕ) (before between after : Counters) → Spent a f s before between → Spent b g t between after
+    → Spent (a + b) (f + g) (s + t) before after
+spent-both a b f g s t before between after first second = record {
+  changing = second.changing ∙ ap (many_more b) first.changing ∙ more-more a b before.tally.changing;
+  reading = second.reading ∙ first.reading;
+  faults = times-both f g before.faults between.faults after.faults first.faults second.faults;
+  stops = times-both s t before.stops between.stops after.stops first.stops second.stops;
+}
+
+pub spent-as : (a b f g s t : ℕ) (before after : Counters) → a ≡ b → f ≡ g → s ≡ t → Spent a f s before after → Spent b g t before after
+spent-as a b f g s t before after calls fails halts spent = record {
+  changing = spent.changing ∙ ap (λ n. many_more n before.tally.changing) calls;
+  reading = spent.reading;
+  faults = subst (λ n. RoseTimes n before.faults after.faults) fails spent.faults;
+  stops = subst (λ n. RoseTimes n before.stops after.stops) halts spent.stops;
+}
+
+-- Deals.
+
+sum-append : (count : Deal → ℕ) (one two : List Deal) → of_all count one + of_all count two ≡ of_all count (two ++ one)
+sum-append count one [] = omega arith
+sum-append count one (deal ∷ two) = let rest = sum-append count one two in omega arith
+
+deals-both : (old middle new : List Entry) (one two : List Deal) → AreDeals old middle one → AreDeals middle new two → AreDeals old new (two ++ one)
+deals-both old middle new one [] first none = first
+deals-both old middle new one (deal ∷ two) first (more {now = now} entry went row second) =
+    more entry went row (deals-both old middle now one two first second)
+
+-- the histories behind which they are
+deals-grow : {old new : List Entry} {deals : List Deal} → AreDeals old new deals → length old ≤ length new
+deals-grow none = le_refl _
+deals-grow (more entry went row are) = let rest = deals-grow are in omega arith
+
+-- by another device that fails alike in these works
+ways-agree : (setup : Setup) (one other : ℕ → ℕ) {old new : List Entry} {deals : List Deal} → AreDeals old new deals
+    → AgreesIn (length old) (length new) one other → AllByRecursion (IsWay (device_by setup one)) deals
+    → AllByRecursion (IsWay (device_by setup other)) deals
+ways-agree setup one other none agrees ways = tt
+ways-agree setup one other (more {now = now} entry went row are) agrees ways =
+    let grown = deals-grow are in (
+      record { fell = agrees (suc (length now)) (omega arith) (omega arith) ∙ ways.0.fell; went = ways.0.went },
+      ways-agree setup one other are (λ number above within. agrees number above (omega arith)) ways.1,
+    )
+
+all-both : (P : Deal → Type 0) (one two : List Deal) → AllByRecursion P one → AllByRecursion P two → AllByRecursion P (two ++ one)
+all-both P one [] first second = first
+all-both P one (deal ∷ two) first second = (second.0, all-both P one two first second.1)
+
+pub dealt-none : (device : Device) (past : List Entry) (seen : Counters) → Dealt device past past seen seen
+dealt-none device past seen = record { deals = []; are = none; ways = tt; spent = spent-none seen }
+
+-- of the same history, though it is said otherwise
+pub dealt-same : (device : Device) (past new : List Entry) (seen : Counters) → new ≡ past → Dealt device past new seen seen
+dealt-same device past new seen same =
+    subst (λ (history : List Entry). Dealt device past history seen seen) (sym same) (dealt-none device past seen)
+
+module _ (setup : Setup) (one two : ℕ → ℕ) (old middle : List Entry) (held between : Counters)
+    (before : Dealt (device_by setup one) old middle held between) where
+  abbrev both : ℕ → ℕ
+  both = spliced (length middle) one two
+
+  dealt-both : (new : List Entry) (left : Counters) → Dealt (device_by setup two) middle new between left → Dealt (device_by setup both) old new held left
+  dealt-both new left after =
+      let device = device_by setup both in
+      let ones = before.deals in
+      let twos = after.deals in
+      let less = deals-grow before.are in
+      let grown = deals-grow after.are in
+      record {
+        deals = twos ++ ones;
+        are = deals-both old middle new ones twos before.are after.are;
+        ways =
+            let first = agrees-first (length old) (length middle) (length new) one two both grown (λ number above within. refl) in
+            let second = agrees-second (length old) (length middle) (length new) one two both less (λ number above within. refl) in
+            all-both (IsWay device) ones twos (ways-agree setup one both before.are first before.ways) (ways-agree setup two both after.are second after.ways);
+        spent =
+            let calls = calls_in device in
+            let all = spent-both (of_all calls ones) (of_all calls twos) (of_all faults_in ones) (of_all faults_in twos) (of_all stops_in ones)
+            (of_all stops_in twos) held between left before.spent after.spent
+            in
+            spent-as _ _ _ _ _ _ held left (sum-append calls ones twos) (sum-append faults_in ones twos) (sum-append stops_in ones twos) all;
+      }
+
+  -- the work behind a longer history is that of the second event
+  behind-is : (past : List Entry) → length middle ≤ length past → both (suc (length past)) ≡ two (suc (length past))
+  behind-is past grown =
+      agrees-second (length middle) (length middle) (suc (length past)) one two both (le_refl (length middle)) (λ number above within. refl)
+      (suc (length past)) (omega arith) (le_refl (suc (length past)))
+
+  ended-both : (left : Counters) → EndedIn (device_by setup two) middle between left → EndedIn (device_by setup both) old held left
+  ended-both left after =
+      let ending = after.ending in
+      record {
+        past = after.past;
+        worked = after.worked;
+        dealt = dealt-both after.past after.worked after.dealt;
+        ending = record {
+          entry = ending.entry;
+          went = ending.went;
+          row = ending.row;
+          fell = behind-is after.past (deals-grow after.dealt.are) ∙ ending.fell;
+          way = ending.way;
+          over = ending.over;
+          spent = ending.spent;
+        };
+      }
+
+  lacked-both : (past : List Entry) (armed : Bool) (worked left : Counters) → length middle ≤ length past
+      → LackedAt (device_by setup two) past armed worked left → LackedAt (device_by setup both) past armed worked left
+  lacked-both past armed worked left grown (Quiet calls made faults stops) = Quiet calls made faults stops
+  lacked-both past armed worked left grown (Falling entry went row made fallen fell way some spent unarmed uncounted) =
+      Falling entry went row made fallen (behind-is past grown ∙ fell) way some spent unarmed uncounted
 
 -- Lines that tell of a server that is down. Where the count of faults stood nothing is asked.
 
@@ -23,8 +176,8 @@ down-both held told left first second late one two less =
       | inl same ↦
           list_any-append is_down second first
           ∙ or_right (list_any is_down second) (list_any is_down first) (one (subst (λ (n : ℕ). held < n) (sym same) less))
-      | inr more ↦
-          list_any-append is_down second first ∙ or_left (list_any is_down second) (list_any is_down first) (two more)
+      | inr above ↦
+          list_any-append is_down second first ∙ or_left (list_any is_down second) (list_any is_down first) (two above)
     ]
 
 -- such a line is none on a message without effect
@@ -35,30 +188,85 @@ down-kept (line ∷ told) = ap (λ b. is_down line || b) (down-kept told)
 
 -- What the disk counted.
 
-pub stood-later : (one two : DiskSeen) → two.faults ≡ one.faults → one.faults ≤ two.faults
+pub stood-later : (one two : Counters) → two.faults ≡ one.faults → one.faults ≤ two.faults
 stood-later one two same = subst (λ (n : ℕ). one.faults ≤ n) (sym same) (le_refl one.faults)
 
-pub uses-none : (seen : DiskSeen) (told : List Told) → UsesGroup (λ number. 0) told seen seen
-uses-none seen told = record { caused = λ never number. refl; later = le_refl seen.faults; felled = down-none seen.faults told }
-
-pub uses-both : (place : ℕ) (one two : ℕ → ℕ) (first second : List Told) (held told left : DiskSeen)
-    → UsesGroup one first held told → UsesGroup two second told left → UsesGroup (spliced place one two) (second ++ first) held left
-uses-both place one two first second held told left before after = record {
-  caused = caused-both held.faults told.faults left.faults place one two before.later after.later before.caused after.caused;
-  later = le_trans before.later after.later;
-  felled = down-both held.faults told.faults left.faults first second after.later before.felled after.felled;
+pub uses-none : (setup : Setup) (past new : List Entry) (told : List Told) (seen : Counters) → new ≡ past
+    → UsesGroup setup (λ number. 0) past new told seen seen
+uses-none setup past new told seen same = record {
+  caused = λ never number. refl;
+  later = le_refl seen.faults;
+  felled = down-none seen.faults told;
+  dealt = dealt-same (device_by setup (λ number. 0)) past new seen same;
 }
 
-pub uses-printed : (happened : ℕ → ℕ) (told : List Told) (held left : DiskSeen) → UsesGroup happened told held left
-    → UsesGroup happened (without is_ignored told) held left
-uses-printed happened told held left uses = record { caused = uses.caused; later = uses.later; felled = λ less. down-kept told ∙ uses.felled less }
+pub uses-both : (setup : Setup) (one two : ℕ → ℕ) (old middle new : List Entry) (first second : List Told) (held between left : Counters)
+    → UsesGroup setup one old middle first held between → UsesGroup setup two middle new second between left
+    → UsesGroup setup (spliced (length middle) one two) old new (second ++ first) held left
+uses-both setup one two old middle new first second held between left before after = record {
+  caused = caused-both held.faults between.faults left.faults (length middle) one two before.later after.later before.caused after.caused;
+  later = le_trans before.later after.later;
+  felled = down-both held.faults between.faults left.faults first second after.later before.felled after.felled;
+  dealt = dealt-both setup one two old middle held between before.dealt new left after.dealt;
+}
 
-pub faults-behind : (place : ℕ) (one two : ℕ → ℕ) (first : List Told) (held told left : DiskSeen)
-    → UsesGroup one first held told → FaultsGroup two told left → FaultsGroup (spliced place one two) held left
-faults-behind place one two first held told left before after = record {
+pub uses-printed : (setup : Setup) (happened : ℕ → ℕ) (old new : List Entry) (told : List Told) (held left : Counters)
+    → UsesGroup setup happened old new told held left → UsesGroup setup happened old new (without is_ignored told) held left
+uses-printed setup happened old new told held left uses = record {
+  caused = uses.caused;
+  later = uses.later;
+  felled = λ less. down-kept told ∙ uses.felled less;
+  dealt = uses.dealt;
+}
+
+pub faults-behind : (setup : Setup) (one two : ℕ → ℕ) (old middle : List Entry) (first : List Told) (held between left : Counters)
+    → UsesGroup setup one old middle first held between → FaultsGroup setup two middle between left
+    → FaultsGroup setup (spliced (length middle) one two) old held left
+faults-behind setup one two old middle first held between left before after = record {
   between = after.between;
   before_it = le_trans before.later after.before_it;
-  caused = caused-both held.faults told.faults after.between place one two before.later after.before_it before.caused after.caused;
+  caused = caused-both held.faults between.faults after.between (length middle) one two before.later after.before_it before.caused after.caused;
   behind_it = after.behind_it;
   rose = after.rose;
+  ended = ended-both setup one two old middle held between before.dealt left after.ended;
 }
+
+-- Want of memory.
+
+-- no call failed, and the disk did not stop
+pub lacks-quiet : (setup : Setup) (past : List Entry) (armed : Bool) (calls : ℕ) (held left : Counters)
+    → left.tally.changing ≡ many_more calls held.tally.changing → left.faults ≡ held.faults → left.stops ≡ held.stops
+    → LacksGroup setup past armed held left
+lacks-quiet setup past armed calls held left made faults stops = record {
+  happened = λ number. 0;
+  past = past;
+  worked = held;
+  dealt = dealt-none (device_by setup (λ number. 0)) past held;
+  lacked = Quiet calls made faults stops;
+}
+
+pub lacks-behind : (setup : Setup) (happened : ℕ → ℕ) (old middle : List Entry) (first : List Told) (armed : Bool) (held between left : Counters)
+    → UsesGroup setup happened old middle first held between → LacksGroup setup middle armed between left → LacksGroup setup old armed held left
+lacks-behind setup happened old middle first armed held between left before after = record {
+  happened = spliced (length middle) happened after.happened;
+  past = after.past;
+  worked = after.worked;
+  dealt = dealt-both setup happened after.happened old middle held between before.dealt after.past after.worked after.dealt;
+  lacked =
+      let grown = deals-grow after.dealt.are in
+      lacked-both setup happened after.happened old middle held between before.dealt after.past armed after.worked left grown after.lacked;
+}
+
+dealt-later : (device : Device) (old new : List Entry) (held left : Counters) → Dealt device old new held left → held.faults ≤ left.faults
+dealt-later device old new held left dealt = times-later (of_all faults_in dealt.deals) held.faults left.faults dealt.spent.faults
+
+lacked-later : (device : Device) (past : List Entry) (armed : Bool) (held left : Counters) → LackedAt device past armed held left → held.faults ≤ left.faults
+lacked-later device past armed held left (Quiet calls made faults stops) = stood-later held left faults
+lacked-later device past armed held left (Falling entry went row made fallen fell way some spent unarmed uncounted) =
+    times-later (faults_by went + length row) held.faults left.faults spent.faults
+
+pub lacks-later : (setup : Setup) (past : List Entry) (armed : Bool) (held left : Counters) → LacksGroup setup past armed held left
+    → held.faults ≤ left.faults
+lacks-later setup past armed held left lacks =
+    le_trans (dealt-later (device_by setup lacks.happened) past lacks.past held lacks.worked lacks.dealt)
+    (lacked-later (device_by setup lacks.happened) lacks.past armed lacks.worked left lacks.lacked)

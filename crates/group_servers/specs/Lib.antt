@@ -10,6 +10,7 @@ pub mod Rejoins
 pub mod Falls
 pub mod GroupNodes
 pub mod Followed
+pub mod Deals
 pub mod GroupCounts
 pub mod GroupKit
 pub mod GroupUses

@@ -9,7 +9,7 @@ use Rattle.cluster_events.specs.Servers.{State}
 use Rattle.cluster_events.specs.Events.{mirror_next, ack_next, work_next, refuse}
 use Rattle.group_cluster.specs.Seats.{Peers}
 use Rattle.group_cluster.specs.Falling.{crash, other_down, arm, disarm, restart}
-use Rattle.group_cluster.specs.Ended.{EndsGroup, EndsCrash}
+use Rattle.group_cluster.specs.Ended.{EndsGroup}
 use Rattle.cluster_rounds.specs.declared.cluster.Cluster.{Cluster}
 use Rattle.cluster_rounds.specs.Kits.{calm_servers, device_by, servers_at}
 use Rattle.cluster_rounds.specs.Rounds.{EventOver, EndOver}
@@ -77,7 +77,3 @@ module _ (n : ℕ) where
   abbrev pub EndsWork : EndOver (group_kit n)
   EndsWork Failed setup fails state end = EndsGroup (device_by setup fails) state end
   EndsWork _ setup fails state end = ⊥
-
-  abbrev pub EndsCrashed : Server → EndOver (group_kit n)
-  EndsCrashed server Failed setup fails state end = EndsCrash (device_by setup fails) server state end
-  EndsCrashed server _ setup fails state end = ⊥

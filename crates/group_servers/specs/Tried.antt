@@ -1,5 +1,5 @@
 -- Words of bodies alone: what standbys that tried to take over are by the definitions.
-use Rattle.std.specs.Prelude.{◌≡◌, ℕ, zero, suc, ◌+◌, ◌≤◌, ◌<◌, Bool, true, Option, Some, None, List, [], ◌∷◌, length}
+use Rattle.std.specs.Prelude.{◌≡◌, ℕ, zero, suc, ◌+◌, ◌≤◌, ◌<◌, Bool, true, if◌then◌else◌, is_some, Option, Some, None, List, [], ◌∷◌, length}
 use Rattle.std.specs.List.{AllByRecursion}
 use Rattle.disk_model.specs.DeviceCalls.{DeviceCall}
 use Rattle.stream_layout.specs.Deeds.{calls_of_all}
@@ -12,7 +12,9 @@ use Rattle.cluster_facts.specs.History.{Hand}
 use Rattle.mirror.specs.Pairing.{deeds_kept, taken_over}
 use Rattle.group_cluster.specs.Seats as defined
 use Rattle.group_cluster.specs.Falling.{takes, felled, named, next_of}
+use Rattle.cluster_rounds.specs.Seen.{counters_of}
 use Rattle.group_servers.specs.declared.group.Seat.{Seat}
+use Rattle.group_servers.specs.Deals.{AreSome, Spent, total}
 use Rattle.group_servers.specs.GroupNodes.{bare}
 use Rattle.group_servers.specs.Lines.{takers}
 use Rattle.group_servers.specs.Tries.{takes as takes_over}
@@ -49,6 +51,13 @@ abbrev pub HasLeft : Bool → ℕ → (olds news : List Seat) → Option ℕ →
 HasLeft fresh count olds news None = Unit {0}
 HasLeft fresh count olds news (Some place) = count + 1 + length (takers fresh news) ≡ length (takers fresh olds)
 
+-- what the disk counted of so many calls as they tried: each of those that failed made some, and the one that took over all
+pub record Row (calls count : ℕ) (took : Bool) (held left : DiskSeen) : Type 0 where
+  pub made : List ℕ
+  pub long : length made ≡ count
+  pub some : AllByRecursion (AreSome calls) made
+  pub spent : Spent (total made + (if took then calls else 0)) (length made) 0 (counters_of held) (counters_of left)
+
 -- so many of them failed before one took over, and none failed without a fault of the disk
 pub record Tried (setup : Setup) (past : List Entry) (hand : Hand) (fresh : Bool) (seats : List defined.Seat) (new : List Seat)
     (found : Option ℕ) (held left : DiskSeen) : Type 0 where
@@ -59,3 +68,5 @@ pub record Tried (setup : Setup) (past : List Entry) (hand : Hand) (fresh : Bool
   pub later : held.faults ≤ left.faults
   pub caused : 1 ≤ count → Rose held.faults left.faults
   pub calls : (calls : List DeviceCall) → AllByRecursion (Makes calls fresh) (bare setup past hand seats) → 1 ≤ count → 1 ≤ length calls
+  pub row : (calls : List DeviceCall) → AllByRecursion (Makes calls fresh) (bare setup past hand seats)
+      → Row (length calls) count (is_some found) held left

@@ -1,7 +1,8 @@
 -- Words of bodies alone: standbys that try to take over, one after another.
-use Rattle.std.specs.Prelude.{◌≡◌, ℕ, ◌+◌, ◌≤◌, Bool, true, false, not, ◌&&◌, Option, Some, None, option_map, Result, Ok, Err, List, [], ◌∷◌}
+use Rattle.std.specs.Prelude.{◌≡◌, ℕ, suc, ◌+◌, ◌≤◌, Bool, true, false, not, ◌&&◌, Option, Some, None, option_map, Result, Ok, Err, List, [], ◌∷◌, length}
 use Rattle.ais_values.specs.Causes.{Rose}
 use Rattle.disk_model.specs.declared.answers.DiskAnswer.{DiskAnswer}
+use Rattle.disk_model.specs.Counts.{asked, passed}
 use Rattle.disk_model.specs.Seen.{DiskSeen}
 use Rattle.disk_model.specs.DeviceCalls.{BreaksOff, LeftAlone, LeftBy, all_applied}
 use Rattle.stream_layout.specs.Deeds.{calls_of_all}
@@ -19,10 +20,11 @@ abbrev pub TriesOne : Seat → Seat → Bool → DiskSeen → DiskSeen → Type 
 TriesOne seat new true held left =
     (new ≡ record seat { node = taken_over seat.node })
     × (left.files ≡ option_map (all_applied (calls_of_all (deeds_kept seat.node.kept))) held.files) × (left.tally.armed ≡ None) × (left.faults ≡ held.faults)
+    × (left.tally ≡ passed (length (calls_of_all (deeds_kept seat.node.kept))) held.tally) × (left.stops ≡ held.stops)
 TriesOne seat new false held left =
     (new ≡ record seat { node = alone down }) × (count : ℕ)
     × BreaksOff LeftBy (calls_of_all (deeds_kept seat.node.kept)) count held.files left.files × (left.tally.armed ≡ None) × (held.faults ≤ left.faults)
-    × Rose held.faults left.faults
+    × Rose held.faults left.faults × (left.tally ≡ passed (suc count) held.tally) × (left.stops ≡ held.stops)
 
 -- the servers, in order, with the place of the one that took over, if one did, and what the disk told before and after
 pub data Tries (fresh : Bool) : List Seat → List Seat → Option ℕ → DiskSeen → DiskSeen → Type 0 where
@@ -43,6 +45,7 @@ pub data Tries (fresh : Bool) : List Seat → List Seat → Option ℕ → DiskS
 abbrev pub Lacks : Seat → DiskSeen → DiskSeen → Type 0
 Lacks seat held left =
     (count : ℕ) × BreaksOff LeftAlone (calls_of_all (deeds_kept seat.node.kept)) count held.files left.files × (left.faults ≡ held.faults)
+    × (left.tally ≡ asked (passed count held.tally)) × (left.stops ≡ held.stops)
 
 -- and so it was behind those that failed, or had nothing to do
 pub data TriesPartly (fresh : Bool) : List Seat → DiskSeen → DiskSeen → Type 0 where

@@ -5,15 +5,15 @@ ghost use Rattle.script_lines.specs.declared.line.Line.TheVariants.{Crash};
 ghost use Rattle.mirror.specs.Replicas.{down};
 ghost use Rattle.mirror.specs.Pairing.{alone};
 ghost use Rattle.cluster_rounds.specs.Worlds.{HasStateOn, any_state};
-ghost use Rattle.cluster_rounds.specs.Came.{ComesOff};
 ghost use Rattle.cluster_lines.specs.Own.{DoesOn};
+ghost use Rattle.cluster_lines.specs.Playing.{BreaksOff};
 ghost use Rattle.group_servers.specs.Caught.{CanCatch};
 ghost use Rattle.group_servers.specs.Falls.{IsFitSeat};
 ghost use Rattle.group_servers.specs.Lines.{takers, joiners, end_lines};
 ghost use Rattle.group_servers.specs.Parted.{leads, follows};
 ghost use Rattle.group_servers.specs.Prepared.{Prepares, Falls};
 ghost use Rattle.group_servers.specs.GroupKit.{group_kit, group_script};
-ghost use Rattle.group_servers.specs.Steps.{crashed_by, EndsCrashed, IsUntold};
+ghost use Rattle.group_servers.specs.Steps.{crashed_by, IsUntold};
 
 use crate::Group;
 use crate::catching::{catch_if, push_caught, put_caught, take_caught};
@@ -110,9 +110,8 @@ fn crash_active<const N: usize, D: SharedDisk>(
     requires leads { leads server world.old.servers ≡ true }
     ensures ok { OnOk result (DoesOn (group_kit N) group_script (Crash server) (crashed_by N server)
         world.old world.new lines.old.items lines.new.items (D.seen disk.old) (D.seen disk.new)) }
-    ensures err { IfErr result (λ answer. ComesOff (group_kit N) any_state (EndsCrashed N server)
-        answer world.old world.new lines.old.items lines.new.items (D.seen disk.old)
-        (D.seen disk.new)) }
+    ensures err { IfErr result (λ answer. BreaksOff (group_kit N) group_script answer (Crash server)
+        world.old world.new lines.old.items lines.new.items (D.seen disk.old) (D.seen disk.new)) }
 {
     match prepare(alloc, world, lines) {
         Ok((catching, fresh, base)) => fall(alloc, world, lines, catching, fresh, base, disk),
@@ -138,9 +137,8 @@ pub fn crash<const N: usize, D: SharedDisk>(
     requires line { line.now ≡ Crash server }
     ensures ok { OnOk result (DoesOn (group_kit N) group_script (Crash server) (crashed_by N server)
         world.old world.new lines.old.items lines.new.items (D.seen disk.old) (D.seen disk.new)) }
-    ensures err { IfErr result (λ answer. ComesOff (group_kit N) any_state (EndsCrashed N server)
-        answer world.old world.new lines.old.items lines.new.items (D.seen disk.old)
-        (D.seen disk.new)) }
+    ensures err { IfErr result (λ answer. BreaksOff (group_kit N) group_script answer (Crash server)
+        world.old world.new lines.old.items lines.new.items (D.seen disk.old) (D.seen disk.new)) }
 {
     if leads(&world.servers, server) {
         return crash_active(alloc, world, lines, server, disk);

@@ -2,13 +2,16 @@ use Rattle.std.proofs.Common.{rules, refl, sym, subst}
 use Rattle.cluster_rounds.specs.Worlds.{Does, any_state}
 use Rattle.cluster_rounds.proofs.ArmedSteps.{state-told}
 use Rattle.cluster_clients.proofs.DispatchSteps.{on-err}
+use Rattle.script_lines.specs.declared.line.Line.TheVariants as line
+use Rattle.cluster_lines.proofs.LineBroken.{ends-broken}
 use Rattle.cluster_lines.proofs.LineSteps.{ends-ok}
-use Rattle.group_servers.specs.GroupKit.{group_kit}
+use Rattle.group_servers.specs.GroupKit.{group_kit, group_script}
 use Rattle.group_servers.specs.GroupLaws.{group_laws}
 use Rattle.group_servers.proofs.GoodSteps.{is-active}
-use Rattle.group_servers.specs.Steps.{EndsCrashed, refused_by}
+use Rattle.group_servers.specs.GroupScript.{group_follows}
+use Rattle.group_servers.specs.Steps.{refused_by}
 use Rattle.group_servers.proofs.HearBroken.{same-untold}
-use Rattle.group_servers.proofs.FailSteps.{crash-on, crash-refuses, ends-off}
+use Rattle.group_servers.proofs.FailSteps.{crash-on, crash-refuses}
 use Rattle.group_servers.proofs.crashing.crash.Goals as goal
 
 pub crash_active-requires : goal.crash_active-requires
@@ -30,7 +33,7 @@ returns-then-follows-clause-ok g c =
 
 pub returns-then-follows-clause-err : goal.returns-then-follows-clause-err
 returns-then-follows-clause-err g c =
-    ends-off g.row.N c.crash_other.result c.as_answer.result (EndsCrashed g.row.N c.args.server) c.args.world.now c.crash_other.new.world c.args.lines.now.items c.crash_other.new.lines.items (g.D.SharedDisk.seen c.args.disk.now) c.as_answer.ensures c.crash_other.ensures.err
+    (ends-broken (group_kit g.row.N) (group_laws g.row.N) group_script (group_follows g.row.N)) c.crash_other.result c.as_answer.result (line.Crash c.args.server) c.args.world.now c.crash_other.new.world c.args.lines.now.items c.crash_other.new.lines.items (g.D.SharedDisk.seen c.args.disk.now) c.as_answer.ensures c.crash_other.ensures.err
 
 pub returns-clause-ok : goal.returns-clause-ok
 returns-clause-ok g c =
@@ -44,4 +47,4 @@ returns-clause-ok g c =
 pub returns-clause-err : goal.returns-clause-err
 returns-clause-err g c =
     let old = c.args.world.now in
-    ends-off g.row.N c.refused.result c.as_answer-2.result (EndsCrashed g.row.N c.args.server) old old c.args.lines.now.items c.refused.new.lines.items (g.D.SharedDisk.seen c.args.disk.now) c.as_answer-2.ensures (on-err c.refused.result (same-untold g.row.N old old refl))
+    (ends-broken (group_kit g.row.N) (group_laws g.row.N) group_script (group_follows g.row.N)) c.refused.result c.as_answer-2.result (line.Crash c.args.server) old old c.args.lines.now.items c.refused.new.lines.items (g.D.SharedDisk.seen c.args.disk.now) c.as_answer-2.ensures (on-err c.refused.result (same-untold g.row.N old old refl))

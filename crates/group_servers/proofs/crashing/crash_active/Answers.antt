@@ -1,10 +1,8 @@
 use Rattle.std.proofs.Common.{rules}
 use Rattle.cluster_rounds.specs.Worlds.{any_state}
 use Rattle.cluster_rounds.proofs.ArmedSteps.{state-told}
-use Rattle.cluster_rounds.proofs.CameSteps.{alone-off}
 use Rattle.group_servers.specs.GroupKit.{group_kit}
 use Rattle.group_servers.specs.GroupLaws.{group_laws}
-use Rattle.group_servers.specs.Steps.{EndsCrashed}
 use Rattle.group_servers.proofs.CrashSteps.{crash-does, crash-off, prepared-fit}
 use Rattle.group_servers.proofs.FallSteps.{all-catch}
 use Rattle.group_servers.proofs.HearBroken.{untold-breaks}
@@ -39,4 +37,4 @@ returns-in-Err-clause-err g c =
     let old = c.args.world.now in
     let new = c.prepare.new.world in
     let untold = c.in-Err.ensures.err in
-    (alone-off (group_kit g.row.N) (group_laws g.row.N)) any_state (EndsCrashed g.row.N c.args.server) old new c.args.lines.now.items c.prepare.new.lines.items (g.D.SharedDisk.seen c.args.disk.now) (λ held setup state good shows any. untold-breaks g.row.N setup state held old new good shows untold.net untold.agents untold.history untold.now)
+    λ setup state good shows armed. (untold-breaks g.row.N setup state (g.D.SharedDisk.seen c.args.disk.now) old new good shows untold.net untold.agents untold.history untold.now, (group_laws g.row.N).lacks_same setup state new.servers (g.D.SharedDisk.seen c.args.disk.now))

@@ -21,7 +21,7 @@ tell_over-requires g c =
     let left = g.D.SharedDisk.seen c.first_takeover.new.disk in
     let K : Option ℕ → Type 0 = λ found. Tries fresh c.drop_ways.new.seats c.first_takeover.new.seats found start left in
     let came = subst K c.in-Ok-Some.field-0-is c.in-Ok-Some.ensures.tries in
-    let started : IsDisarmed held start = record { files = c.disarm.ensures.same; faults = c.disarm.ensures.faults_stay; armed = ap (λ (t : Tally). t.armed) c.disarm.ensures.counted } in
+    let started : IsDisarmed held start = record { files = c.disarm.ensures.same; faults = c.disarm.ensures.faults_stay; armed = ap (λ (t : Tally). t.armed) c.disarm.ensures.counted; tally = c.disarm.ensures.counted; stops = c.disarm.ensures.stops_stay } in
     let many = c.count_takers-count.ensures.is ∙ ap (λ (seats : List Seat). length (takers fresh seats)) c.drop_ways.ensures in
     let fewer = tries-fewer fresh c.drop_ways.new.seats c.first_takeover.new.seats (Some c.in-Ok-Some.place) c.in-Ok-Some.place start left refl came in
     let are = c.count_takers-left.ensures.is in
@@ -38,7 +38,7 @@ tell_fallen-requires g c =
     let held = g.D.SharedDisk.seen c.args.disk.now in
     let start = g.D.SharedDisk.seen c.disarm.new.self in
     let left = g.D.SharedDisk.seen c.first_takeover.new.disk in
-    let started : IsDisarmed held start = record { files = c.disarm.ensures.same; faults = c.disarm.ensures.faults_stay; armed = ap (λ (t : Tally). t.armed) c.disarm.ensures.counted } in
+    let started : IsDisarmed held start = record { files = c.disarm.ensures.same; faults = c.disarm.ensures.faults_stay; armed = ap (λ (t : Tally). t.armed) c.disarm.ensures.counted; tally = c.disarm.ensures.counted; stops = c.disarm.ensures.stops_stay } in
     let many = c.count_takers-count.ensures.is ∙ ap (λ (seats : List Seat). length (takers fresh seats)) c.drop_ways.ensures in
     let within = lines-within c.requires.lines.0 c.args.lines.now.items old.acting _ _ c.args.base c.count_takers-count.result c.requires.lines.1 (takers-are g.row.N fresh old held start started c.count_takers-count.result many) c.requires.lines.2 in
     omega arith
@@ -53,7 +53,7 @@ rejoin-requires g c =
     let left = g.D.SharedDisk.seen c.first_takeover.new.disk in
     let K : Option ℕ → Type 0 = λ found. Tries fresh c.drop_ways.new.seats c.first_takeover.new.seats found start left in
     let came = subst K c.in-Ok-Some.field-0-is c.in-Ok-Some.ensures.tries in
-    let started : IsDisarmed held start = record { files = c.disarm.ensures.same; faults = c.disarm.ensures.faults_stay; armed = ap (λ (t : Tally). t.armed) c.disarm.ensures.counted } in
+    let started : IsDisarmed held start = record { files = c.disarm.ensures.same; faults = c.disarm.ensures.faults_stay; armed = ap (λ (t : Tally). t.armed) c.disarm.ensures.counted; tally = c.disarm.ensures.counted; stops = c.disarm.ensures.stops_stay } in
     let many = c.count_takers-count.ensures.is ∙ ap (λ (seats : List Seat). length (takers fresh seats)) c.drop_ways.ensures in
     let all = subst (λ (seats : List Seat). AllByRecursion IsFitSeat seats) (sym c.drop_ways.ensures) (wayless-fit old.seats c.requires.fit) in
     let fit = leads-fit fresh c.drop_ways.new.seats c.first_takeover.new.seats (Some c.in-Ok-Some.place) c.in-Ok-Some.place start left c.exchange-servers.new.seats old.active c.exchange-servers.new.active old.acting c.exchange-servers.result refl came all c.exchange-servers.ensures in
@@ -68,7 +68,7 @@ returns-in-Ok g c = λ before long is.
     let left = g.D.SharedDisk.seen c.first_takeover.new.disk in
     let K : Option ℕ → Type 0 = λ found. Tries fresh c.drop_ways.new.seats c.first_takeover.new.seats found start left in
     let came = subst K c.in-Ok-Some.field-0-is c.in-Ok-Some.ensures.tries in
-    let started : IsDisarmed held start = record { files = c.disarm.ensures.same; faults = c.disarm.ensures.faults_stay; armed = ap (λ (t : Tally). t.armed) c.disarm.ensures.counted } in
+    let started : IsDisarmed held start = record { files = c.disarm.ensures.same; faults = c.disarm.ensures.faults_stay; armed = ap (λ (t : Tally). t.armed) c.disarm.ensures.counted; tally = c.disarm.ensures.counted; stops = c.disarm.ensures.stops_stay } in
     let many = c.count_takers-count.ensures.is ∙ ap (λ (seats : List Seat). length (takers fresh seats)) c.drop_ways.ensures in
     let T : List Seat → Type 0 = λ seats. Tries fresh seats c.first_takeover.new.seats (Some c.in-Ok-Some.place) start left in
     let tries = subst T c.drop_ways.ensures came in
@@ -84,11 +84,11 @@ returns-in-Err-rejoin g c = λ before long is.
     let left = g.D.SharedDisk.seen c.first_takeover.new.disk in
     let K : Option ℕ → Type 0 = λ found. Tries fresh c.drop_ways.new.seats c.first_takeover.new.seats found start left in
     let came = subst K c.in-Ok-Some.field-0-is c.in-Ok-Some.ensures.tries in
-    let started : IsDisarmed held start = record { files = c.disarm.ensures.same; faults = c.disarm.ensures.faults_stay; armed = ap (λ (t : Tally). t.armed) c.disarm.ensures.counted } in
+    let started : IsDisarmed held start = record { files = c.disarm.ensures.same; faults = c.disarm.ensures.faults_stay; armed = ap (λ (t : Tally). t.armed) c.disarm.ensures.counted; tally = c.disarm.ensures.counted; stops = c.disarm.ensures.stops_stay } in
     let many = c.count_takers-count.ensures.is ∙ ap (λ (seats : List Seat). length (takers fresh seats)) c.drop_ways.ensures in
     let T : List Seat → Type 0 = λ seats. Tries fresh seats c.first_takeover.new.seats (Some c.in-Ok-Some.place) start left in
     let tries = subst T c.drop_ways.ensures came in
-    record { start = start; started = started; part = inr (c.first_takeover.new.seats, c.in-Ok-Some.place, tries) }
+    record { unarmed = refl; start = start; started = started; part = inr (c.first_takeover.new.seats, c.in-Ok-Some.place, tries) }
 
 pub returns-in-Ok-None : goal.returns-in-Ok-None
 returns-in-Ok-None g c = λ before long is.
@@ -99,7 +99,7 @@ returns-in-Ok-None g c = λ before long is.
     let left = g.D.SharedDisk.seen c.first_takeover.new.disk in
     let K : Option ℕ → Type 0 = λ found. Tries fresh c.drop_ways.new.seats c.first_takeover.new.seats found start left in
     let came = subst K c.in-Ok-None.field-0-is c.in-Ok-None.ensures.tries in
-    let started : IsDisarmed held start = record { files = c.disarm.ensures.same; faults = c.disarm.ensures.faults_stay; armed = ap (λ (t : Tally). t.armed) c.disarm.ensures.counted } in
+    let started : IsDisarmed held start = record { files = c.disarm.ensures.same; faults = c.disarm.ensures.faults_stay; armed = ap (λ (t : Tally). t.armed) c.disarm.ensures.counted; tally = c.disarm.ensures.counted; stops = c.disarm.ensures.stops_stay } in
     let many = c.count_takers-count.ensures.is ∙ ap (λ (seats : List Seat). length (takers fresh seats)) c.drop_ways.ensures in
     let T : List Seat → Type 0 = λ seats. Tries fresh seats c.first_takeover.new.seats None start left in
     let tries = subst T c.drop_ways.ensures came in
@@ -112,7 +112,7 @@ returns-in-Err g c = λ before long is.
     let held = g.D.SharedDisk.seen c.args.disk.now in
     let start = g.D.SharedDisk.seen c.disarm.new.self in
     let left = g.D.SharedDisk.seen c.first_takeover.new.disk in
-    let started : IsDisarmed held start = record { files = c.disarm.ensures.same; faults = c.disarm.ensures.faults_stay; armed = ap (λ (t : Tally). t.armed) c.disarm.ensures.counted } in
+    let started : IsDisarmed held start = record { files = c.disarm.ensures.same; faults = c.disarm.ensures.faults_stay; armed = ap (λ (t : Tally). t.armed) c.disarm.ensures.counted; tally = c.disarm.ensures.counted; stops = c.disarm.ensures.stops_stay } in
     let many = c.count_takers-count.ensures.is ∙ ap (λ (seats : List Seat). length (takers fresh seats)) c.drop_ways.ensures in
     let P : List Seat → Type 0 = λ seats. TriesPartly fresh seats start left in
-    takes-partly g.row.N fresh old held start started c.count_takers-count.result many _ before c.args.lines.now.items left c.in-Err.answer (subst P c.drop_ways.ensures c.in-Err.ensures.lacks) (λ is. c.in-Err.ensures.never_failed (ap Err is)) (λ is. c.in-Err.ensures.never_stopped (ap Err is))
+    takes-partly g.row.N fresh old held start started c.count_takers-count.result many _ before c.args.lines.now.items left c.in-Err.answer refl (subst P c.drop_ways.ensures c.in-Err.ensures.lacks) (λ is. c.in-Err.ensures.never_failed (ap Err is)) (λ is. c.in-Err.ensures.never_stopped (ap Err is))

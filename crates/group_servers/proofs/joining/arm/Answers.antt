@@ -1,6 +1,5 @@
-use Rattle.std.proofs.Common.{sym, ap, subst}
+use Rattle.std.proofs.Common.{sym, subst}
 use Rattle.std.proofs.lemmas.Result.{on_ok_weaker}
-use Rattle.disk_model.specs.declared.tally.Tally.{Tally}
 use Rattle.cluster_rounds.specs.Worlds.{Does}
 use Rattle.group_servers.specs.GroupKit.{group_kit}
 use Rattle.group_servers.specs.Steps.{refused_by}
@@ -9,7 +8,7 @@ use Rattle.group_servers.proofs.joining.arm.Goals as goal
 
 pub returns-then-leads-clause-ok : goal.returns-then-leads-clause-ok
 returns-then-leads-clause-ok g c =
-    arms g.row.N c.args.server c.args.count c.args.world.now c.args.lines.now.items (g.D.SharedDisk.seen c.args.disk.now) (g.D.SharedDisk.seen c.arm.new.self) (sym c.if-leads.ensures) c.requires.count c.arm.ensures.same (ap (λ (t : Tally). t.armed) c.arm.ensures.counted) c.arm.ensures.faults_stay
+    arms g.row.N c.args.server c.args.count c.args.world.now c.args.lines.now.items (g.D.SharedDisk.seen c.args.disk.now) (g.D.SharedDisk.seen c.arm.new.self) (sym c.if-leads.ensures) c.requires.count c.arm.ensures.same c.arm.ensures.counted c.arm.ensures.faults_stay c.arm.ensures.stops_stay
 
 pub returns-clause-ok : goal.returns-clause-ok
 returns-clause-ok g c =

@@ -3,6 +3,7 @@ use Rattle.std.specs.Prelude.{IsSome}
 use Rattle.group_cluster.specs.Group.{mirror_group, ack_group}
 use Rattle.cluster_rounds.specs.declared.cluster.Cluster.{Cluster}
 use Rattle.cluster_rounds.specs.Worlds.{any_state}
+use Rattle.cluster_rounds.specs.Broken.{BreaksAlone}
 use Rattle.cluster_rounds.specs.Came.{Comes, ComesOff, Advances}
 use Rattle.cluster_rounds.proofs.ArmedSteps.{state-told}
 use Rattle.group_servers.specs.declared.group.Group.{Group}
@@ -96,3 +97,17 @@ returns-clause-ok g c =
     let R : Cluster (Group g.row.N) → Type 0 = λ world. IsSome world.servers.active.replica.owed × (world.servers.active.waits ≡ None) → ⊥ in
     let not : R c.ack.new.world = λ ready. let is = c.ready.ensures.1 ready in let no = c.if-ready.false in cc in
     (same, mirrors.1, refl, advances-none g.row.N c.args.world.now none (subst R same not))
+
+-- memory ran out as a message was taken: nothing was worked
+pub returns-in-Err-clause-err : goal.returns-in-Err-clause-err
+returns-in-Err-clause-err g c = λ setup state good shows armed told.
+    let held = g.D.SharedDisk.seen c.args.disk.now in
+    (c.in-Err.ensures.err held setup state good shows, (group_laws g.row.N).lacks_same setup state c.mirror.new.world.servers held)
+
+pub returns-in-Err-ack-clause-err : goal.returns-in-Err-ack-clause-err
+returns-in-Err-ack-clause-err g c = λ setup state good shows armed told.
+    let held = g.D.SharedDisk.seen c.args.disk.now in
+    let S : Bool → Type 0 = λ went. StepsBy g.row.N mirror_group went c.args.world.now c.mirror.new.world c.args.lines.now.items c.mirror.new.lines.items in
+    let none = subst S c.if-mirrored.false c.in-Ok.ensures.ok in
+    let B : Cluster (Group g.row.N) → Type 0 = λ world. BreaksAlone (group_kit g.row.N) world c.ack.new.world in
+    (subst B none.0 c.in-Err-ack.ensures.err held setup state good shows, (group_laws g.row.N).lacks_same setup state c.ack.new.world.servers held)
