@@ -1,7 +1,9 @@
 -- What is promised where a fault of the disk ended a run holds.
 use Rattle.std.proofs.Common.{◌≡◌, ℕ, ℤ, inl, inr, Bool, false, if◌then◌else◌, List, [], ◌∷◌, ◌++◌, Option, Some, None, refl, ap, sym, subst}
 use Rattle.std.specs.Prelude.{IfSome}
+use Rattle.disk_model.specs.Counts.{Counters}
 use Rattle.disk_model.specs.Disk.{Files}
+use Rattle.disk_model.specs.Seen.{DiskSeen}
 use Rattle.script_lines.specs.declared.line.Line.{Line}
 use Rattle.script_lines.specs.declared.line.Line.TheVariants as line
 use Rattle.plain_service.specs.Setups.{Setup, CanBegin}
@@ -39,7 +41,7 @@ use Rattle.played_runs.specs.Ends.{FaultLeft, Showing, Ending}
 use Rattle.played_runs.specs.Games.{Game}
 use Rattle.played_runs.specs.Laws.{IsGame}
 use Rattle.played_runs.specs.Playing.{Goes, seen_behind}
-use Rattle.played_runs.specs.Views.{DiskView, files_told}
+use Rattle.played_runs.specs.Views.{behind_opening, files_told}
 use Rattle.played_runs.proofs.GoingSteps.{told-same}
 use Rattle.played_runs.proofs.TellingLaws.{each-told}
 use Rattle.played_runs.proofs.PlayLaws.{answered-range, played-files, played-says, played-stays}
@@ -117,7 +119,7 @@ if-same (Some one) files P same holds = subst P (sym same) holds
 module _ {P S W : Type 0} (game : Game P S W) (is_game : IsGame game) where
   -- A fault behind lines that were played.
 
-  module _ (setup : Setup) (places : ℕ) (held : Option Files) (first : ℕ) (played : List Line) (text_before : List ℕ) (goes : (Goes game) setup places held first played text_before) where
+  module _ (setup : Setup) (places : ℕ) (held : Option Files) (first : Counters) (played : List Line) (text_before : List ℕ) (goes : (Goes game) setup places held first played text_before) where
     -- the files that the lines left are those of the history
     files-stand : goes.files ≡ files_of setup goes.state.world.core.answered
     files-stand =
@@ -129,7 +131,7 @@ module _ {P S W : Type 0} (game : Game P S W) (is_game : IsGame game) where
     leaves-unanswered (line.Crash server) world told lacks = tt
     leaves-unanswered next world told lacks = lacks refl
 
-    ended-keeps : (next : Line) (told : List Told) (left : DiskView) (world : W) → (ended : game.Ended setup goes.state next told ((seen_behind game) goes) left world) → EndKeeps setup next (game.end setup goes.state next told ((seen_behind game) goes) left world ended).state.world ((game.end setup goes.state next told ((seen_behind game) goes) left world ended).told ++ goes.told) left.files
+    ended-keeps : (next : Line) (told : List Told) (left : DiskSeen) (world : W) → (ended : game.Ended setup goes.state next told ((seen_behind game) goes) left world) → EndKeeps setup next (game.end setup goes.state next told ((seen_behind game) goes) left world ended).state.world ((game.end setup goes.state next told ((seen_behind game) goes) left world ended).told ++ goes.told) left.files
     ended-keeps next told left world ended =
         let plain = plain_of setup in
         let last = game.end setup goes.state next told ((seen_behind game) goes) left world ended in
@@ -155,10 +157,10 @@ module _ {P S W : Type 0} (game : Game P S W) (is_game : IsGame game) where
           records = left-between setup past (files_told goes.files held) left.files (RecordsKept setup past) leaves (λ files between. records-kept setup goes.good.begins end.now past files (legal-now setup start end lines sound empty says) range between);
         }
 
-    fault-keeps : (next : Line) (left : DiskView) (world : W) (lines : List ℕ) (fault : FaultLeft game setup goes.state next ((seen_behind game) goes) left world lines) → (FaultKeeps game) setup goes.state next ((seen_behind game) goes) left world lines goes.told fault
-    fault-keeps next left world lines (Showing shows_files shows same armed rose none) =
+    fault-keeps : (next : Line) (left : DiskSeen) (world : W) (lines : List ℕ) (fault : FaultLeft game setup goes.state next ((seen_behind game) goes) left world lines) → (FaultKeeps game) setup goes.state next ((seen_behind game) goes) left world lines goes.told fault
+    fault-keeps next left world lines (Showing shows_files shows read rose none) =
         let core = goes.state.world.core in
-        let one = told-same held left.files goes.files same in
+        let one = told-same held left.files goes.files read.files in
         record {
           stand = if-same left.files goes.files (λ files. FilesStand service_disk (storage_of setup) goes.state.world files) one files-stand;
           stays = if-same left.files goes.files (λ files. RecordsStay (plain_of setup) service_disk (storage_of setup) goes.state.world files) one (played-stays game is_game setup places held first goes.good.begins goes.run (answered-range core.answered core.hand goes.good.range));
@@ -169,6 +171,6 @@ module _ {P S W : Type 0} (game : Game P S W) (is_game : IsGame game) where
         let K : List Told → Type 0 = λ one. EndKeeps setup next end.state.world (one ++ goes.told) left.files in
         subst K (sym stands.printed) (ended-keeps next told left world ended)
 
-  pub keeps-at-fault : (held : Option Files) (left : DiskView) (world : W) → (KeepsAtFault game) held left world
+  pub keeps-at-fault : (held : Option Files) (left : DiskSeen) (world : W) → (KeepsAtFault game) held left world
   keeps-at-fault held left world first script done rest next text lines front fault =
-      fault-keeps front.setup front.places held first done text front.goes next left world lines fault
+      fault-keeps front.setup front.places held (behind_opening front.setup first) done text front.goes next left world lines fault

@@ -1,5 +1,6 @@
 -- What is promised at the end of each line holds throughout.
 use Rattle.std.proofs.Common.{ℕ, List, Option, subst}
+use Rattle.disk_model.specs.Counts.{Counters}
 use Rattle.disk_model.specs.Disk.{Files}
 use Rattle.script_lines.specs.declared.line.Line.{Line}
 use Rattle.script_lines.specs.declared.line.Line.TheVariants as line
@@ -22,17 +23,18 @@ use Rattle.played_runs.specs.Games.{Game}
 use Rattle.played_runs.specs.Laws.{IsGame}
 use Rattle.played_runs.specs.Playing.{Ran}
 use Rattle.played_runs.specs.Promises.{Sentence, Throughout, KeepsOneHistory, RepliesRightly, ReadsRightly, CallsBack, PrintsPosts, KeepsFiles, KeepsRecords, StandsOnce, SettlesAll}
+use Rattle.played_runs.specs.Views.{behind_opening}
 use Rattle.played_runs.proofs.PlayLaws.{opening_files, played-says, played-keeps, played-files, played-stays, answered-range}
 
 module _ {P S W : Type 0} (game : Game P S W) (is_game : IsGame game) where
   -- a sentence that holds of all lines that were played holds at the end of each of them
-  pub throughout : (held : Option Files) (Q : Setup → Sentence) → ((setup : Setup) (places : ℕ) (held : Option Files) (first : ℕ) → CanBegin setup → (lines : List Line) (state : State P) (told : List Told) (left : Files × ℕ) → (Ran game) setup places held first lines state told left → AreInRange state.world.core.answered → Q setup lines state.world told left.0) → (Throughout game) held Q
+  pub throughout : (held : Option Files) (Q : Setup → Sentence) → ((setup : Setup) (places : ℕ) (held : Option Files) (first : Counters) → CanBegin setup → (lines : List Line) (state : State P) (told : List Told) (left : Files × Counters) → (Ran game) setup places held first lines state told left → AreInRange state.world.core.answered → Q setup lines state.world told left.0) → (Throughout game) held Q
   throughout held Q always first script done rest text front =
       let setup = front.setup in
       let plays = front.goes in
       let core = plays.state.world.core in
       let R : List Entry → Type 0 = λ entries. AreInRange entries in
-      each-end (StepOnDisk (game.Step setup held) service_disk (storage_of setup)) (game.start setup front.places) (opening_files setup, first) (λ lines state told left. Q setup lines state.world told left.0) (λ state. AreInRange state.world.core.answered) (λ before next state outcome after step range. range-before step.more state.world.core.answered (subst R step.grown range)) (always setup front.places held first plays.good.begins) plays.run (answered-range core.answered core.hand plays.good.range)
+      each-end (StepOnDisk (game.Step setup held) service_disk (storage_of setup)) (game.start setup front.places) (opening_files setup, behind_opening setup first) (λ lines state told left. Q setup lines state.world told left.0) (λ state. AreInRange state.world.core.answered) (λ before next state outcome after step range. range-before step.more state.world.core.answered (subst R step.grown range)) (always setup front.places held (behind_opening setup first) plays.good.begins) plays.run (answered-range core.answered core.hand plays.good.range)
 
   pub keeps-one-history : (held : Option Files) → (Throughout game) held KeepsOneHistory
   keeps-one-history held =
@@ -65,7 +67,7 @@ module _ {P S W : Type 0} (game : Game P S W) (is_game : IsGame game) where
       let legal = answered-legal (plain_of setup) world.now world.core.answered world.core.hand facts.legal in
       record-alone setup world.core.answered client other_client number other_number stored other spot (history-of setup can world.now world.core.answered legal range) own others at other_at)
 
-  settled : (setup : Setup) (places : ℕ) (held : Option Files) (first : ℕ) {lines : List Line} {state : State P} {told : List Told} {left : Files × ℕ} → (Ran game) setup places held first lines state told left → SettlesAll setup lines state.world told left.0
+  settled : (setup : Setup) (places : ℕ) (held : Option Files) (first : Counters) {lines : List Line} {state : State P} {told : List Told} {left : Files × Counters} → (Ran game) setup places held first lines state told left → SettlesAll setup lines state.world told left.0
   settled setup places held first Started = tt
   settled setup places held first (Went {state = state} {before = before} line.Settle outcome after run step) =
       is_game.settles setup held before.1 state outcome after.1 (played-says game is_game setup places held first run).0 step.step

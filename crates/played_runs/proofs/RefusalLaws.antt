@@ -110,7 +110,7 @@ refused-due setup _ told world sound waits = refl
 module _ {P S W : Type 0} (game : Game P S W) (is_game : IsGame game) where
   pub declines-rightly : (held : Option Files) → (OfAllLines game) held DeclinesRightly
   declines-rightly held =
-      each-played game is_game held DeclinesRightly (λ setup places first lines state told before next outcome after run done.
+      each-played game is_game held (λ setup. DeclinesRightly) (λ setup places first lines state told before next outcome after run done.
       let steady = (played-says game is_game setup places held first run).0 in
       (is_game.done setup held before.1 next state outcome after steady done).refuses
       ∙ refused-due setup next told state.world steady.sound (played-waits game is_game setup places held first run))

@@ -1,6 +1,7 @@
 -- Callbacks tell each send once and in order, throughout.
 use Rattle.std.proofs.Common.{Option}
 use Rattle.disk_model.specs.Disk.{Files}
+use Rattle.disk_model.specs.Seen.{DiskSeen}
 use Rattle.plain_service.specs.Setups.{Setup}
 use Rattle.cluster_facts.specs.Messages.{messages_in, sent_by, receipts_of}
 use Rattle.cluster_facts.specs.Agents.{fed_of}
@@ -13,7 +14,6 @@ use Rattle.played_runs.specs.Games.{Game}
 use Rattle.played_runs.specs.Laws.{IsGame}
 use Rattle.played_runs.specs.Promises.{Throughout}
 use Rattle.played_runs.specs.Telling.{TellsEach, TellsOnce, TellsAtWant}
-use Rattle.played_runs.specs.Views.{DiskView}
 use Rattle.played_runs.proofs.PlayLaws.{played-keeps}
 use Rattle.played_runs.proofs.PromiseLaws.{throughout}
 
@@ -25,7 +25,7 @@ module _ {P S W : Type 0} (game : Game P S W) (is_game : IsGame game) where
   pub tells-once : (held : Option Files) → (Throughout game) held TellsOnce
   tells-once held = throughout game is_game held TellsOnce (λ setup places told_first first can lines state told files run range. each-told setup state.world (played-keeps game is_game setup places told_first first run).items)
 
-  pub tells-at-want : (held : Option Files) (left : DiskView) (world : W) → (TellsAtWant game) held left world
+  pub tells-at-want : (held : Option Files) (left : DiskSeen) (world : W) → (TellsAtWant game) held left world
   tells-at-want held left world first script done rest next text front broken client key =
       let state = front.goes.state in
       let fed = broken.fed client in

@@ -1,6 +1,7 @@
 -- The time in force behind a line; and the entries that it commits, which are of the time in force as they were accepted.
 use Rattle.std.proofs.Common.{◌≡◌, ℕ, ℤ, inl, inr, Option, List, [], ◌∷◌, ◌++◌, length, refl, sym, ◌∙◌, subst}
 use Rattle.std.specs.List.{AllByRecursion}
+use Rattle.disk_model.specs.Counts.{Counters}
 use Rattle.disk_model.specs.Disk.{Files}
 use Rattle.script_lines.specs.declared.line.Line.{Line}
 use Rattle.script_lines.specs.declared.line.Line.TheVariants as line
@@ -93,10 +94,10 @@ in_time-by-kind plain = record {
 
 module _ {P S W : Type 0} (game : Game P S W) (is_game : IsGame game) where
   -- the time in force behind a line
-  pub line-now : (setup : Setup) (held : Option Files) (before : ℕ) (next : Line) (state : State P) (outcome : Outcome (State P)) (after : ℕ) → IsSteady (plain_of setup) game.kit.Good state → game.Step setup held before next state outcome after → outcome.state.world.now ≡ time_behind state.world.now next
+  pub line-now : (setup : Setup) (held : Option Files) (before : Counters) (next : Line) (state : State P) (outcome : Outcome (State P)) (after : Counters) → IsSteady (plain_of setup) game.kit.Good state → game.Step setup held before next state outcome after → outcome.state.world.now ≡ time_behind state.world.now next
   line-now setup held before next state outcome after steady done =
       (is_game.done setup held before next state outcome after steady done).in_time.now ∙ time-by state.world.now next
 
   pub commits-in-time : (held : Option Files) → (OfAllLines game) held CommitsInTime
   commits-in-time held =
-      each-played game is_game held CommitsInTime (λ setup places first lines state told before next outcome after run done. let goes = (is_game.done setup held before.1 next state outcome after (played-says game is_game setup places held first run).0 done).in_time in (goes.entries, goes.waits))
+      each-played game is_game held (λ setup. CommitsInTime) (λ setup places first lines state told before next outcome after run done. let goes = (is_game.done setup held before.1 next state outcome after (played-says game is_game setup places held first run).0 done).in_time in (goes.entries, goes.waits))

@@ -1,6 +1,7 @@
 -- A client's agent keeps the calls that the client sent and to which no line tells the reply.
 use Rattle.std.proofs.Common.{◌≡◌, ℕ, ◌<◌, ◌||◌, ◌==◌, Bool, true, false, if◌then◌else◌, List, [], ◌∷◌, ◌++◌, length, Option, refl, ap, sym, ◌∙◌, subst, arith}
 use Rattle.std.specs.List.{AllByRecursion}
+use Rattle.disk_model.specs.Counts.{Counters}
 use Rattle.disk_model.specs.Disk.{Files}
 use Rattle.script_lines.specs.declared.line.Line.{Line}
 use Rattle.plain_service.specs.Setups.{Setup}
@@ -199,7 +200,7 @@ waits-behind (Asks client asked) old new before told goes below waits = goes bef
 waits-behind _ old new before told goes below waits = waits-on old new before told waits goes
 
 module _ {P S W : Type 0} (game : Game P S W) (is_game : IsGame game) where
-  pub played-waits : (setup : Setup) (places : ℕ) (held : Option Files) (first : ℕ) {lines : List Line} {state : State P} {told : List Told} {left : Files × ℕ} → (Ran game) setup places held first lines state told left → KeepsWaiting state.world told
+  pub played-waits : (setup : Setup) (places : ℕ) (held : Option Files) (first : Counters) {lines : List Line} {state : State P} {told : List Told} {left : Files × Counters} → (Ran game) setup places held first lines state told left → KeepsWaiting state.world told
   played-waits setup places held first Started =
       subst (λ (world : World). KeepsWaiting world []) (sym (is_game.empty setup places)) (λ client. refl)
   played-waits setup places held first (Went {state = state} {told = told} {before = before} next outcome after run step) =

@@ -1,6 +1,8 @@
 -- Words of public clauses: what is promised where a fault of the disk ended a run.
 use Rattle.std.specs.Prelude.{◌≡◌, ℕ, true, List, [], ◌∷◌, ◌++◌, Option, Some, IfSome}
+use Rattle.disk_model.specs.Counts.{Counters}
 use Rattle.disk_model.specs.Disk.{Files}
+use Rattle.disk_model.specs.Seen.{DiskSeen}
 use Rattle.script_lines.specs.declared.line.Line.{Line}
 use Rattle.script_lines.specs.declared.line.Line.TheVariants as line
 use Rattle.plain_service.specs.Setups.{Setup}
@@ -22,7 +24,6 @@ use Rattle.played_runs.specs.Ends.{FaultLeft, Showing, Ending}
 use Rattle.played_runs.specs.Games.{Game}
 use Rattle.played_runs.specs.Playing.{PlaysFront, seen_behind}
 use Rattle.played_runs.specs.Telling.{TellsEach}
-use Rattle.played_runs.specs.Views.{DiskView}
 
 -- what was answered as stored before the last entry of a history, and has a place before it, stands there with its bytes, or at its place
 -- after that entry, unless the entry leaves it none
@@ -69,18 +70,18 @@ pub record ShowKeeps (setup : Setup) (world : World) (left : Option Files) : Typ
 module _ {P S W : Type 0} (game : Game P S W) where
   -- by what the fault left behind these lines
   abbrev pub FaultKeeps :
-      (setup : Setup) (state : State P) (next : Line) (held left : DiskView) (world : W) (lines : List ℕ) (before : List Told)
+      (setup : Setup) (state : State P) (next : Line) (held left : DiskSeen) (world : W) (lines : List ℕ) (before : List Told)
       → FaultLeft game setup state next held left world lines → Type 0
-  FaultKeeps setup state next held left world lines before (Showing shows_files shows same armed rose none) =
+  FaultKeeps setup state next held left world lines before (Showing shows_files shows read rose none) =
       ShowKeeps setup state.world left.files
   FaultKeeps setup state next held left world lines before (Ending told ended printed) =
       EndKeeps setup next (game.end setup state next told held left world ended).state.world (told ++ before) left.files
 
   -- so it is behind each front of a script that was played on a disk that told these files before, wherever a fault in the next line
   -- left the world and the disk as they are now
-  abbrev pub KeepsAtFault : (held : Option Files) (left : DiskView) (world : W) → Type 0
+  abbrev pub KeepsAtFault : (held : Option Files) (left : DiskSeen) (world : W) → Type 0
   KeepsAtFault held left world =
-      (first : ℕ) (script done rest : List Line) (next : Line) (text lines : List ℕ)
+      (first : Counters) (script done rest : List Line) (next : Line) (text lines : List ℕ)
       (front : (PlaysFront game) held first script done (next ∷ rest) text)
       (fault : FaultLeft game front.setup front.goes.state next ((seen_behind game) front.goes) left world lines)
       → FaultKeeps front.setup front.goes.state next ((seen_behind game) front.goes) left world lines front.goes.told fault

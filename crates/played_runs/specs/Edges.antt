@@ -1,8 +1,9 @@
 -- Words of public clauses: what a run was given of each thing outside, and what it leaves of it.
 use Rattle.std.specs.Prelude.{◌≡◌, ℕ, List, Option}
+use Rattle.disk_model.specs.Counts.{Counters}
 use Rattle.disk_model.specs.Disk.{Files}
 use Rattle.disk_model.specs.Seen.{DiskSeen}
-use Rattle.played_runs.specs.Views.{DiskView}
+use Rattle.played_runs.specs.Views.{counters_of}
 
 -- a source, a sink or a disk before and after: what it tells of its content, and how often it has failed
 pub record Edge (S T : Type 0) : Type 0 where
@@ -33,26 +34,28 @@ fault_count one = (one.faults one.old, one.faults one.new)
 abbrev pub IsUntouched : {S T : Type 0} → Edge S T → Type 0
 IsUntouched one = one.new ≡ one.old
 
--- where a script is played: the sink, the disk, with the changing calls that are left until it stops, where it is armed after, and the
--- world of servers and clients before and after
+-- where a script is played: the sink, the disk, and what is seen of it, and the world of servers and clients before and after
 pub record Stage (W K D : Type 0) : Type 0 where
   pub sink : Edge K (List ℕ)
   pub disk : Edge D Files
-  pub armed : Option ℕ
+  pub shows : D → DiskSeen
   pub world : W
   pub world_after : W
 
-abbrev pub stage : {W K D : Type 0} → Edge K (List ℕ) → Edge D Files → Option ℕ → W → W → Stage W K D
-stage sink disk armed world world_after =
-    record { sink = sink; disk = disk; armed = armed; world = world; world_after = world_after }
+abbrev pub stage : {W K D : Type 0} → Edge K (List ℕ) → (D → DiskSeen) → D → D → W → W → Stage W K D
+stage sink shows old new world world_after =
+    record { sink = sink; disk = disk_edge shows old new; shows = shows; world = world; world_after = world_after }
 
--- what the disk tells after
-abbrev pub disk_left : {W K D : Type 0} → Stage W K D → DiskView
-disk_left scene = record { files = after scene.disk; armed = scene.armed; faults = scene.disk.faults scene.disk.new }
+-- what is seen of the disk before and after
+abbrev pub disk_held : {W K D : Type 0} → Stage W K D → DiskSeen
+disk_held scene = scene.shows scene.disk.old
 
--- the disk's count of faults before
-abbrev pub first_count : {W K D : Type 0} → Stage W K D → ℕ
-first_count scene = scene.disk.faults scene.disk.old
+abbrev pub disk_left : {W K D : Type 0} → Stage W K D → DiskSeen
+disk_left scene = scene.shows scene.disk.new
+
+-- what the disk counted before
+abbrev pub first_count : {W K D : Type 0} → Stage W K D → Counters
+first_count scene = counters_of (disk_held scene)
 
 -- disk and world are as they were
 pub record LeavesAll {W K D : Type 0} (scene : Stage W K D) : Type 0 where

@@ -1,14 +1,12 @@
 -- Words of public clauses: a world that plays the lines of scripts, and what its events are to it.
 use Rattle.std.specs.Prelude.{◌≡◌, ℕ, ◌≤◌, ℤ, Bool, true, false, Option, None, List, [], ◌++◌, Result, Ok, Err}
 use Rattle.ais_values.specs.Causes.{Rose}
+use Rattle.disk_model.specs.Counts.{Counters}
 use Rattle.disk_model.specs.Disk.{Files}
-use Rattle.disk_model.specs.DeviceCalls.{DoesFront, FailsAfter}
-use Rattle.disk_model.specs.Seen.{none_seen}
-use Rattle.stream_layout.specs.Deeds.{calls_of_all}
+use Rattle.disk_model.specs.Seen.{DiskSeen, none_seen}
 use Rattle.script_lines.specs.declared.line.Line.{Line}
 use Rattle.script_lines.specs.declared.line.Line.TheVariants as line
 use Rattle.plain_service.specs.Setups.{Setup}
-use Rattle.plain_service.specs.Storing.{opening_of}
 use Rattle.cluster_events.specs.Lines.{Told}
 use Rattle.cluster_events.specs.Outcomes.{Outcome}
 use Rattle.cluster_events.specs.Servers.{State}
@@ -19,9 +17,10 @@ use Rattle.cluster_clients.specs.declared.answer.EventAnswer.TheVariants.{Memory
 use Rattle.cluster_rounds.specs.declared.cluster.Cluster.{Cluster}
 use Rattle.cluster_rounds.specs.Kits.{Kit}
 use Rattle.cluster_rounds.specs.Broken as cluster
+use Rattle.cluster_rounds.specs.Seen.{IsRead}
 use Rattle.cluster_rounds.specs.Worlds as clusters
 use Rattle.cluster_rounds.specs.Worlds.{LeavesFiles, TellsFiles}
-use Rattle.played_runs.specs.Views.{DiskView, files_alone}
+use Rattle.played_runs.specs.Views.{FailedDeeds, LackedDeeds, behind_deeds, counters_of, files_alone}
 
 -- a world that is W in the code, whose servers keep P beside the world of the definitions and are S in the code
 pub record Game (P S W : Type 0) : Type 1 where
@@ -31,8 +30,8 @@ pub record Game (P S W : Type 0) : Type 1 where
   pub Begins : Line → Setup → ℕ → Type 0
   -- a line can be played behind the first one, at this time
   pub Follows : ℤ → Line → Type 0
-  -- a line was done, over a disk that told these files before the run, with the disk's count of faults before and after the line
-  pub Step : Setup → Option Files → StepBy ℕ P
+  -- a line was done, over a disk that told these files before the run, with what the disk counted before and after the line
+  pub Step : Setup → Option Files → StepBy Counters P
   -- a world before its first line; the time in force in one; and its parts, where its servers keep this
   pub empty : W
   pub now : W → ℤ
@@ -40,9 +39,9 @@ pub record Game (P S W : Type 0) : Type 1 where
   -- how many changing calls are left until the disk stops, where it is armed
   pub armed : P → Option ℕ
   -- a fault of the disk ended the event of a line, which told these lines, and left the disk and the world so; and where it ended
-  pub Ended : Setup → State P → Line → List Told → DiskView → DiskView → W → Type 0
+  pub Ended : Setup → State P → Line → List Told → DiskSeen → DiskSeen → W → Type 0
   pub end :
-      (setup : Setup) (state : State P) (next : Line) (told : List Told) (held left : DiskView) (world : W)
+      (setup : Setup) (state : State P) (next : Line) (told : List Told) (held left : DiskSeen) (world : W)
       → Ended setup state next told held left world → Outcome (State P)
 
 -- lines that show files
@@ -51,13 +50,12 @@ shows_files line.Files = true
 shows_files (line.Cat name) = true
 shows_files _ = false
 
--- what the start left of the files where it was not done: for want of memory some calls of its deeds from the front were done;
--- where a call failed those before it were done, and nothing is printed
-abbrev pub LeavesBroken : {T : Type 0} → Setup → Option Files → Option Files → Result T EventAnswer → Type 0
-LeavesBroken setup held left (Ok begun) = Unit {0}
-LeavesBroken setup held left (Err Memory) = DoesFront (calls_of_all (opening_of setup)) held left
-LeavesBroken setup held left (Err (DiskFault lines)) =
-    (lines ≡ []) × (count : ℕ) × FailsAfter (calls_of_all (opening_of setup)) count held left
+-- what the start left: its deeds were done, and no other calls were made; memory was wanting in them; or one of their calls failed, and
+-- nothing is printed
+abbrev pub LeavesOpening : {T : Type 0} → Setup → DiskSeen → DiskSeen → Result T EventAnswer → Type 0
+LeavesOpening setup held left (Ok begun) = counters_of left ≡ behind_deeds setup (counters_of held)
+LeavesOpening setup held left (Err Memory) = LackedDeeds setup held left
+LeavesOpening setup held left (Err (DiskFault lines)) = (lines ≡ []) × FailedDeeds setup held left
 
 -- the disk's count of faults does not fall in an event, and rises where a fault ends it
 abbrev pub RisesInEvent : {T : Type 0} → ℕ → ℕ → Result T EventAnswer → Type 0
@@ -88,27 +86,27 @@ module _ {P S W : Type 0} (game : Game P S W) where
 
   -- the cluster of a setup stands at its start: the world is good, a disk that told its files tells those of the empty history, and it is
   -- not armed
-  pub record Begun (setup : Setup) (places : ℕ) (held : Option Files) (left : DiskView) (world : W) : Type 0 where
+  pub record Begun (setup : Setup) (places : ℕ) (held : Option Files) (left : DiskSeen) (world : W) : Type 0 where
     pub good : IsGood setup (game.start setup places)
     pub shows : Shows setup (game.start setup places) world
     pub files : LeavesFiles setup (game.start setup places) held left.files
-    pub armed : left.armed ≡ None
+    pub armed : left.tally.armed ≡ None
 
   -- a line was done: the world and the disk stand for the state after it, and the lines are those of the event
-  pub record EventDone (setup : Setup) (state : State P) (next : Line) (lines : List (List ℕ)) (held left : DiskView) (world : W) : Type 0 where
+  pub record EventDone (setup : Setup) (state : State P) (next : Line) (lines : List (List ℕ)) (held left : DiskSeen) (world : W) : Type 0 where
     pub outcome : Outcome (State P)
-    pub done : game.Step setup held.files held.faults next state outcome left.faults
+    pub done : game.Step setup held.files (counters_of held) next state outcome (counters_of left)
     pub good : IsGood setup outcome.state
     pub shows : Shows setup outcome.state world
-    pub armed : IsArmedBy outcome.state left.armed
+    pub armed : IsArmedBy outcome.state left.tally.armed
     pub text : lines ≡ printed outcome.told
     pub files : LeavesFiles setup outcome.state held.files left.files
 
   -- so it is over each good state that the world and the disk stood for
-  abbrev pub DoesEvent : Line → List (List ℕ) → W → W → DiskView → DiskView → Type 0
+  abbrev pub DoesEvent : Line → List (List ℕ) → W → W → DiskSeen → DiskSeen → Type 0
   DoesEvent next lines old new held left =
-      (setup : Setup) (state : State P) → IsGood setup state → Shows setup state old → IsArmedBy state held.armed → TellsFiles setup state held.files
-      → EventDone setup state next lines held left new
+      (setup : Setup) (state : State P) → IsGood setup state → Shows setup state old → IsArmedBy state held.tally.armed
+      → TellsFiles setup state held.files → EventDone setup state next lines held left new
 
   -- an event broke off for want of memory, and left the parts of the world so
   abbrev pub Broken : Setup → State P → Option Files → Option Files → W → Type 0
@@ -116,28 +114,33 @@ module _ {P S W : Type 0} (game : Game P S W) where
       (cluster.Broken game.kit) setup state (game.kit.see (files_alone held) none_seen) (game.kit.see (files_alone left) none_seen)
       (game.parts state.peers world)
 
+  -- and servers and disk are as that leaves them
+  abbrev pub Lacks : Setup → State P → DiskSeen → DiskSeen → W → Type 0
+  Lacks setup state held left world =
+      game.kit.Lacks setup state (game.parts state.peers world).servers (game.kit.see held none_seen) (game.kit.see left none_seen)
+
   -- so it is over each good state that the world and the disk stood for
-  abbrev pub BreaksOn : W → W → DiskView → DiskView → Type 0
+  abbrev pub BreaksOn : W → W → DiskSeen → DiskSeen → Type 0
   BreaksOn old new held left =
-      (setup : Setup) (state : State P) → IsGood setup state → Shows setup state old → IsArmedBy state held.armed
-      → Broken setup state held.files left.files new
+      (setup : Setup) (state : State P) → IsGood setup state → Shows setup state old → IsArmedBy state held.tally.armed
+      → Broken setup state held.files left.files new × Lacks setup state held left new
 
   -- the disk had a fault that left no server active: over each good state that the world and the disk stood for the event ended there, and
   -- these lines were printed
-  abbrev pub EndsEvent : Line → W → W → List (List ℕ) → List (List ℕ) → DiskView → DiskView → Type 0
+  abbrev pub EndsEvent : Line → W → W → List (List ℕ) → List (List ℕ) → DiskSeen → DiskSeen → Type 0
   EndsEvent next old new before after held left =
-      (setup : Setup) (state : State P) → IsGood setup state → Shows setup state old → IsArmedBy state held.armed → (told : List Told)
+      (setup : Setup) (state : State P) → IsGood setup state → Shows setup state old → IsArmedBy state held.tally.armed → (told : List Told)
       × game.Ended setup state next told held left new × (after ≡ before ++ printed told)
 
-  -- A line that shows files leaves all as it was where the disk has a fault. Any other line ended.
-  abbrev pub FaultLeaves : Line → W → W → List (List ℕ) → List (List ℕ) → DiskView → DiskView → Type 0
+  -- A line that shows files leaves all as it was where the disk has a fault, which was only read. Any other line ended.
+  abbrev pub FaultLeaves : Line → W → W → List (List ℕ) → List (List ℕ) → DiskSeen → DiskSeen → Type 0
   FaultLeaves line.Files old new before after held left =
-      (new ≡ old) × (after ≡ before) × (left.files ≡ held.files) × (left.armed ≡ held.armed)
+      (new ≡ old) × (after ≡ before) × IsRead held left
   FaultLeaves (line.Cat name) old new before after held left =
-      (new ≡ old) × (after ≡ before) × (left.files ≡ held.files) × (left.armed ≡ held.armed)
+      (new ≡ old) × (after ≡ before) × IsRead held left
   FaultLeaves next old new before after held left = EndsEvent next old new before after held left
 
   -- what a line left that was not done, by the answer
-  abbrev pub EventBroken : EventAnswer → Line → W → W → DiskView → DiskView → Type 0
+  abbrev pub EventBroken : EventAnswer → Line → W → W → DiskSeen → DiskSeen → Type 0
   EventBroken Memory next old new held left = BreaksOn old new held left
   EventBroken (DiskFault lines) next old new held left = FaultLeaves next old new [] lines held left

@@ -8,8 +8,8 @@ use Rattle.script_language.specs.Lines.{Spells}
 use Rattle.plain_service.specs.Setups.{Setup}
 use Rattle.cluster_clients.specs.Answers.{RisesAtFault}
 use Rattle.cluster_clients.specs.declared.answer.EventAnswer.{EventAnswer}
-use Rattle.played_runs.specs.Games.{Begun, DoesEvent, EventBroken, Game, HasState, LeavesBroken, RisesInEvent}
-use Rattle.played_runs.specs.Views.{HoldsNone, view_of}
+use Rattle.played_runs.specs.Games.{Begun, DoesEvent, EventBroken, Game, HasState, LeavesOpening, RisesInEvent}
+use Rattle.played_runs.specs.Views.{HoldsNone}
 
 module _ {P S W D : Type 0} (game : Game P S W) (seen : D → DiskSeen) where
   -- a line can begin this world over this disk
@@ -22,10 +22,9 @@ module _ {P S W D : Type 0} (game : Game P S W) (seen : D → DiskSeen) where
   -- a line began it, or the world is as it was
   pub record Opened (opening : Line) (held left : D) (old new : W) (result : Result Unit EventAnswer) : Type 0 where
     pub ok : (setup : Setup) (places : ℕ) → game.Begins opening setup places → HoldsNone (seen held).files
-        → OnOk result ((Begun game) setup places (seen held).files (view_of (seen left)) new)
+        → OnOk result ((Begun game) setup places (seen held).files (seen left) new)
     pub same : OnErr result (new ≡ old)
-    pub broken : (setup : Setup) (places : ℕ) → game.Begins opening setup places
-        → LeavesBroken setup (seen held).files (seen left).files result
+    pub leaves : (setup : Setup) (places : ℕ) → game.Begins opening setup places → LeavesOpening setup (seen held) (seen left) result
     pub cause : RisesAtFault (seen held).faults (seen left).faults result
 
   -- a line can be done behind the first one
@@ -36,8 +35,8 @@ module _ {P S W D : Type 0} (game : Game P S W) (seen : D → DiskSeen) where
 
   -- it was done, with these lines, or broke off
   pub record Happened (next : Line) (held left : D) (old new : W) (result : Result (List (List ℕ)) EventAnswer) : Type 0 where
-    pub ok : IfOk result (λ lines. (DoesEvent game) next lines old new (view_of (seen held)) (view_of (seen left)))
-    pub broken : IfErr result (λ answer. (EventBroken game) answer next old new (view_of (seen held)) (view_of (seen left)))
+    pub ok : IfOk result (λ lines. (DoesEvent game) next lines old new (seen held) (seen left))
+    pub broken : IfErr result (λ answer. (EventBroken game) answer next old new (seen held) (seen left))
     pub cause : RisesInEvent (seen held).faults (seen left).faults result
 
   -- a call with a line, a disk and a world, which may change the two, and what it gives and leaves

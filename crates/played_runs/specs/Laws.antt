@@ -1,6 +1,8 @@
 -- Words of laws: what is asked of a world that plays the lines of scripts.
 use Rattle.std.specs.Prelude.{◌≡◌, ℕ, false, Option, None, List}
+use Rattle.disk_model.specs.Counts.{Counters}
 use Rattle.disk_model.specs.Disk.{Files}
+use Rattle.disk_model.specs.Seen.{DiskSeen}
 use Rattle.script_lines.specs.declared.line.Line.{Line}
 use Rattle.script_lines.specs.declared.line.Line.TheVariants as line
 use Rattle.plain_service.specs.Setups.{Setup}
@@ -21,7 +23,7 @@ use Rattle.cluster_rounds.specs.Worlds.{TellsFiles}
 use Rattle.service_laws.specs.PlainOf.{plain_of}
 use Rattle.played_runs.specs.Games.{Game}
 use Rattle.played_runs.specs.Kinds.{InTime, Refuses, Waits}
-use Rattle.played_runs.specs.Views.{DiskView, files_told}
+use Rattle.played_runs.specs.Views.{files_told}
 
 -- the facts hold of a state, and lines say what led there from another one
 abbrev pub Keeps : {P S W : Type 0} → Game P S W → Setup → (old new : State P) → List Told → Type 0
@@ -54,17 +56,18 @@ pub record IsGame {P S W : Type 0} (game : Game P S W) : Type 0 where
   pub unarmed : (setup : Setup) (places : ℕ) → game.armed (game.start setup places).peers ≡ None
   pub clock : (peers : P) (world : W) → (game.parts peers world).now ≡ game.now world
   -- what is said of files that the disk told before a line is said of those that it told before the run
-  pub retold : (setup : Setup) (held : Option Files) (files : Files) (before : ℕ) (next : Line) (state : State P) (outcome : Outcome (State P)) (after : ℕ)
+  pub retold : (setup : Setup) (held : Option Files) (files : Files) (before : Counters) (next : Line) (state : State P)
+      (outcome : Outcome (State P)) (after : Counters)
       → game.Step setup (files_told files held) before next state outcome after → game.Step setup held before next state outcome after
-  pub done : (setup : Setup) (held : Option Files) (before : ℕ) (next : Line) (state : State P) (outcome : Outcome (State P)) (after : ℕ)
+  pub done : (setup : Setup) (held : Option Files) (before : Counters) (next : Line) (state : State P) (outcome : Outcome (State P)) (after : Counters)
       → IsSteady (plain_of setup) game.kit.Good state → game.Step setup held before next state outcome after
       → DoneFacts game setup next state outcome
-  pub settles : (setup : Setup) (held : Option Files) (before : ℕ) (state : State P) (outcome : Outcome (State P)) (after : ℕ)
+  pub settles : (setup : Setup) (held : Option Files) (before : Counters) (state : State P) (outcome : Outcome (State P)) (after : Counters)
       → IsSteady (plain_of setup) game.kit.Good state → game.Step setup held before line.Settle state outcome after
       → IsSettled (plain_of setup) outcome.state.world
-  pub stands : (setup : Setup) (state : State P) (next : Line) (told : List Told) (held left : DiskView) (world : W)
+  pub stands : (setup : Setup) (state : State P) (next : Line) (told : List Told) (held left : DiskSeen) (world : W)
       → (ended : game.Ended setup state next told held left world)
       → EndStands game setup state told held.files left.files (game.end setup state next told held left world ended)
-  pub ends : (setup : Setup) (state : State P) (next : Line) (told : List Told) (held left : DiskView) (world : W)
+  pub ends : (setup : Setup) (state : State P) (next : Line) (told : List Told) (held left : DiskSeen) (world : W)
       → (ended : game.Ended setup state next told held left world) → IsSteady (plain_of setup) game.kit.Good state
       → EndFacts game setup next state (game.end setup state next told held left world ended)

@@ -1,6 +1,8 @@
 -- Words of public clauses: lines that are played, of which nothing is written.
 use Rattle.std.specs.Prelude.{ℕ, ℤ, List, ◌∷◌, ◌++◌, [], ◌⊎◌, Option, Some, None, Result, Ok, Err}
+use Rattle.disk_model.specs.Counts.{Counters}
 use Rattle.disk_model.specs.Disk.{Files}
+use Rattle.disk_model.specs.Seen.{DiskSeen}
 use Rattle.script_lines.specs.declared.line.Line.{Line}
 use Rattle.script_language.specs.Lines.{Spells}
 use Rattle.plain_service.specs.Setups.{Setup}
@@ -10,7 +12,6 @@ use Rattle.played_runs.specs.declared.passing.Halt.TheVariants.{Memory, DiskFaul
 use Rattle.played_runs.specs.Counts.{HasGoneOn, HasRisen}
 use Rattle.played_runs.specs.Games.{Game}
 use Rattle.played_runs.specs.Steps.{EventsEnd, Going, LacksBehind}
-use Rattle.played_runs.specs.Views.{DiskView}
 
 -- the disk's count of faults as lines are played
 abbrev pub RisesPassing : ℕ × ℕ → Result Unit Halt → Type 0
@@ -27,24 +28,25 @@ module _ {P S W : Type 0} (game : Game P S W) where
   -- what stands behind lines that were played from the start of a cluster on; or where the run ended: for want of memory, in one of them or
   -- as one was made, or by a fault of the disk
   abbrev pub PassEnds :
-      (Since : Option Files → ℕ → Type 0) → Setup → ℕ → Option Files → ℕ → List Line → DiskView → W → Result Unit Halt → Type 0
+      (Since : Option Files → Counters → Type 0) → Setup → ℕ → Option Files → Counters → List Line → DiskSeen → W
+      → Result Unit Halt → Type 0
   PassEnds Since setup places held first lines left world (Ok done) =
       (text : List ℕ) × (Going game) setup places held first left world lines text
   PassEnds Since setup places held first lines left world (Err Memory) =
       (text : List ℕ)
-      × ((LacksBehind game) setup places held first left.files world lines text
+      × ((LacksBehind game) setup places held first left world lines text
       ⊎ (EventsEnd game) setup places held first left Since world lines None text)
   PassEnds Since setup places held first lines left world (Err DiskFault) =
       (text : List ℕ) × (EventsEnd game) setup places held first left Since world lines (Some Faulted) text
 
   -- so it is behind all lines that led to a world and a disk
-  abbrev pub Passes : (Since : Option Files → ℕ → Type 0) → List Line → (mid left : DiskView) (old new : W) → Result Unit Halt → Type 0
+  abbrev pub Passes : (Since : Option Files → Counters → Type 0) → List Line → (mid left : DiskSeen) (old new : W) → Result Unit Halt → Type 0
   Passes Since lines mid left old new result =
-      (setup : Setup) (places : ℕ) (held : Option Files) (first : ℕ) (done : List Line) (text : List ℕ)
+      (setup : Setup) (places : ℕ) (held : Option Files) (first : Counters) (done : List Line) (text : List ℕ)
       → (Going game) setup places held first mid old done text → PassEnds Since setup places held first (done ++ lines) left new result
 
   -- some lines led there
-  abbrev pub HasGone : DiskView → W → Type 0
+  abbrev pub HasGone : DiskSeen → W → Type 0
   HasGone left world =
-      (setup : Setup) × (places : ℕ) × (held : Option Files) × (first : ℕ) × (done : List Line) × (text : List ℕ)
+      (setup : Setup) × (places : ℕ) × (held : Option Files) × (first : Counters) × (done : List Line) × (text : List ℕ)
       × (Going game) setup places held first left world done text

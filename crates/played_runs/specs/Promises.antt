@@ -1,5 +1,6 @@
 -- Words of public clauses: what is promised at the end of each line that is played, each sentence by itself.
 use Rattle.std.specs.Prelude.{◌≡◌, ℕ, List, ◌∷◌, Option, Some}
+use Rattle.disk_model.specs.Counts.{Counters}
 use Rattle.disk_model.specs.Disk.{Files}
 use Rattle.script_lines.specs.declared.line.Line.{Line}
 use Rattle.script_lines.specs.declared.line.Line.TheVariants as line
@@ -27,15 +28,15 @@ use Rattle.played_runs.specs.Playing.{PlaysFront}
 abbrev pub Sentence : Type 1
 Sentence = List Line → World → List Told → Files → Type 0
 
--- what is said of one line: the disk's count of faults before it, what was told before it, where it was played, what it led to, and the
--- count after it
+-- what is said of one line: what the disk counted before it, what was told before it, where it was played, what it led to, and what the
+-- disk counted after it
 abbrev pub LineSentence : Type 0 → Type 1
-LineSentence P = ℕ → Line → List Told → State P → Outcome (State P) → ℕ → Type 0
+LineSentence P = Counters → Line → List Told → State P → Outcome (State P) → Counters → Type 0
 
 -- it is so of each line of a run
 abbrev pub OfEachLine :
-    {P : Type 0} {Step : StepBy ℕ P} {disk : Disk} {storage : Storage disk} (Q : LineSentence P) {start : State P} {first : disk.Files × ℕ}
-    {lines : List Line} {state : State P} {told : List Told} {left : disk.Files × ℕ}
+    {P : Type 0} {Step : StepBy Counters P} {disk : Disk} {storage : Storage disk} (Q : LineSentence P) {start : State P} {first : disk.Files × Counters}
+    {lines : List Line} {state : State P} {told : List Told} {left : disk.Files × Counters}
     → RunBy (StepOnDisk Step disk storage) start first lines state told left → Type 0
 OfEachLine Q Started = Unit {0}
 OfEachLine Q (Went {state = state} {told = told} {before = before} next outcome after run step) =
@@ -45,13 +46,19 @@ module _ {P S W : Type 0} (game : Game P S W) where
   -- it is so at each end, however far a script was played on a disk that told these files before
   abbrev pub Throughout : (held : Option Files) (Q : Setup → Sentence) → Type 0
   Throughout held Q =
-      (first : ℕ) (script done rest : List Line) (text : List ℕ) (front : (PlaysFront game) held first script done rest text)
-      → AtEachEnd (λ (lines : List Line) (state : State P) (told : List Told) (left : Files × ℕ). Q front.setup lines state.world told left.0) front.goes.run
+      (first : Counters) (script done rest : List Line) (text : List ℕ) (front : (PlaysFront game) held first script done rest text)
+      → AtEachEnd (λ (lines : List Line) (state : State P) (told : List Told) (left : Files × Counters). Q front.setup lines state.world told left.0)
+      front.goes.run
 
-  -- it is so of each line, however far a script was played on a disk that told these files before
+  -- it is so of each line by its setup, however far a script was played on a disk that told these files before
+  abbrev pub OfAllLinesOf : (held : Option Files) (Q : Setup → LineSentence P) → Type 0
+  OfAllLinesOf held Q =
+      (first : Counters) (script done rest : List Line) (text : List ℕ) (front : (PlaysFront game) held first script done rest text)
+      → OfEachLine (Q front.setup) front.goes.run
+
+  -- whatever the setup
   abbrev pub OfAllLines : (held : Option Files) (Q : LineSentence P) → Type 0
-  OfAllLines held Q =
-      (first : ℕ) (script done rest : List Line) (text : List ℕ) (front : (PlaysFront game) held first script done rest text) → OfEachLine Q front.goes.run
+  OfAllLines held Q = OfAllLinesOf held (λ setup. Q)
 
 -- one history: it is legal, its entries are those of the `acc` lines, in order, and each client's calls stand in it in their order
 abbrev pub KeepsOneHistory : Setup → Sentence

@@ -2,7 +2,9 @@
 use Rattle.std.specs.Prelude.{◌≡◌, ℕ, ℤ, List, [], ◌∷◌, ◌++◌, reverse, Option, Some, None, Result, Ok, Err, IfSome}
 use Rattle.std.specs.FinMap as files
 use Rattle.std.specs.Io.KnownBytes.{Appends}
+use Rattle.disk_model.specs.Counts.{Counters}
 use Rattle.disk_model.specs.Disk.{Files}
+use Rattle.disk_model.specs.Seen.{DiskSeen}
 use Rattle.script_lines.specs.declared.line.Line.{Line}
 use Rattle.script_lines.specs.declared.line.Line.TheVariants as line
 use Rattle.script_language.specs.Lines.{Spells}
@@ -15,9 +17,9 @@ use Rattle.played_runs.specs.declared.ending.Status8.TheVariants.{Done, DiskFaul
 use Rattle.played_runs.specs.Counts.{HasGoneOn, HasStood}
 use Rattle.played_runs.specs.Edges.{Edge, Stage, after, before, fault_count}
 use Rattle.played_runs.specs.Ends.{FaultLeft, PlayEnds, PlayLacks, fault_line}
-use Rattle.played_runs.specs.Games.{Begun, Broken, EventDone, Game, IsArmedBy, IsGood, Shows}
+use Rattle.played_runs.specs.Games.{Begun, Broken, EventDone, Game, IsArmedBy, IsGood, Lacks, Shows}
 use Rattle.played_runs.specs.Playing.{Goes, Played, StandsAt, seen_behind, text_of}
-use Rattle.played_runs.specs.Views.{DiskView, HoldsNone, files_told}
+use Rattle.played_runs.specs.Views.{HoldsNone, counters_of, files_told}
 use Rattle.played_runs.specs.Writing.{Ended, Reaching, joined_lines, unasked}
 
 -- the disk holds no file, or this is the least name
@@ -59,21 +61,21 @@ module _ {P S W : Type 0} (game : Game P S W) where
   PlayedOn lines scene status =
       Ended unasked (fault_count scene.disk) (PlayEnds game lines scene) (PlayLacks game lines scene) scene.sink status
 
-  -- some lines were played from a count of faults on
-  pub record Going (setup : Setup) (places : ℕ) (held : Option Files) (first : ℕ) (left : DiskView) (world : W) (lines : List Line)
+  -- some lines were played from what the disk had counted on
+  pub record Going (setup : Setup) (places : ℕ) (held : Option Files) (first : Counters) (left : DiskSeen) (world : W) (lines : List Line)
       (text : List ℕ) : Type 0 where
     pub state : State P
     pub told : List Told
     pub files : Files
-    pub run : (Played game) setup places held first (reverse lines) state told files left.faults
+    pub run : (Played game) setup places held first (reverse lines) state told files (counters_of left)
     pub good : (IsGood game) setup state
     pub shows : (Shows game) setup state world
-    pub armed : (IsArmedBy game) state left.armed
+    pub armed : (IsArmedBy game) state left.tally.armed
     pub tells : LeavesFiles setup state held left.files
     pub written : text ≡ text_of told
 
   -- where one line that is played ends: its event is done, or the disk failed behind some lines
-  abbrev pub LineEnds : Setup → State P → Line → DiskView → DiskView → W → Reaching
+  abbrev pub LineEnds : Setup → State P → Line → DiskSeen → DiskSeen → W → Reaching
   LineEnds setup state next held left world None text =
       (lines : List (List ℕ)) × (text ≡ joined_lines lines) × (EventDone game) setup state next lines held left world
   LineEnds setup state next held left world (Some DiskFault) text =
@@ -81,24 +83,25 @@ module _ {P S W : Type 0} (game : Game P S W) where
   LineEnds setup state next held left world _ text = ⊥
 
   -- memory was wanting as a line was played, before anything of it was written
-  abbrev pub LineLacks : Setup → State P → Option Files → Option Files → W → List ℕ → Type 0
-  LineLacks setup state held left world text = (text ≡ []) × (Broken game) setup state held left world
+  abbrev pub LineLacks : Setup → State P → DiskSeen → DiskSeen → W → List ℕ → Type 0
+  LineLacks setup state held left world text =
+      (text ≡ []) × (Broken game) setup state held.files left.files world × (Lacks game) setup state held left world
 
   -- a line was played, over each good state that the world and the disk stood for
-  abbrev pub PlaysLine : {K : Type 0} → Line → DiskView → DiskView → W → W → Edge K (List ℕ) → Result Unit Status8 → Type 0
+  abbrev pub PlaysLine : {K : Type 0} → Line → DiskSeen → DiskSeen → W → W → Edge K (List ℕ) → Result Unit Status8 → Type 0
   PlaysLine next held left old new sink result =
-      (setup : Setup) (state : State P) → (IsGood game) setup state → (Shows game) setup state old → (IsArmedBy game) state held.armed
+      (setup : Setup) (state : State P) → (IsGood game) setup state → (Shows game) setup state old → (IsArmedBy game) state held.tally.armed
       → TellsFiles setup state held.files
-      → LineGives (held.faults, left.faults) (LineEnds setup state next held left new) (LineLacks setup state held.files left.files new) sink result
+      → LineGives (held.faults, left.faults) (LineEnds setup state next held left new) (LineLacks setup state held left new) sink result
 
   -- lines were played, and world and disk stand where they led
-  pub record Plays (setup : Setup) (places : ℕ) (held : Option Files) (first : ℕ) (left : DiskView) (world : W) (lines : List Line)
+  pub record Plays (setup : Setup) (places : ℕ) (held : Option Files) (first : Counters) (left : DiskSeen) (world : W) (lines : List Line)
       (text : List ℕ) : Type 0 where
     pub goes : (Goes game) setup places held first lines text
-    pub now : (StandsAt game) setup goes.state goes.files goes.faults held left world
+    pub now : (StandsAt game) setup goes.state goes.files goes.counts held left world
 
   -- an event broke off behind those that were done
-  pub record BreaksBehind (setup : Setup) (places : ℕ) (held : Option Files) (first : ℕ) (events : List Line) (front : List ℕ) : Type 0 where
+  pub record BreaksBehind (setup : Setup) (places : ℕ) (held : Option Files) (first : Counters) (events : List Line) (front : List ℕ) : Type 0 where
     pub done : List Line
     pub next : Line
     pub rest : List Line
@@ -106,23 +109,24 @@ module _ {P S W : Type 0} (game : Game P S W) where
     pub goes : (Goes game) setup places held first done front
 
   -- for want of memory
-  pub record LacksBehind (setup : Setup) (places : ℕ) (held : Option Files) (first : ℕ) (left : Option Files) (world : W) (events : List Line)
+  pub record LacksBehind (setup : Setup) (places : ℕ) (held : Option Files) (first : Counters) (left : DiskSeen) (world : W) (events : List Line)
       (front : List ℕ) : Type 0 where
     pub behind : BreaksBehind setup places held first events front
-    pub broken : (Broken game) setup behind.goes.state (files_told behind.goes.files held) left world
+    pub broken : (Broken game) setup behind.goes.state (files_told behind.goes.files held) left.files world
+    pub lacks : (Lacks game) setup behind.goes.state ((seen_behind game) behind.goes) left world
 
-  -- by a fault of the disk, which told the files of the events before and their count of faults
-  pub record FaultsBehind (setup : Setup) (places : ℕ) (held : Option Files) (first : ℕ) (left : DiskView) (Since : Option Files → ℕ → Type 0)
-      (world : W) (events : List Line) (text : List ℕ) : Type 0 where
+  -- by a fault of the disk, which told the files of the events before and counted what they counted
+  pub record FaultsBehind (setup : Setup) (places : ℕ) (held : Option Files) (first : Counters) (left : DiskSeen)
+      (Since : Option Files → Counters → Type 0) (world : W) (events : List Line) (text : List ℕ) : Type 0 where
     pub front : List ℕ
     pub behind : BreaksBehind setup places held first events front
     pub lines : List ℕ
     pub fault : FaultLeft game setup behind.goes.state behind.next ((seen_behind game) behind.goes) left world lines
-    pub since : Since (files_told behind.goes.files held) behind.goes.faults
+    pub since : Since (files_told behind.goes.files held) behind.goes.counts
     pub written : text ≡ front ++ (lines ++ fault_line)
 
   -- where the lines behind the opening end
-  abbrev pub EventsEnd : Setup → ℕ → Option Files → ℕ → DiskView → (Option Files → ℕ → Type 0) → W → List Line → Reaching
+  abbrev pub EventsEnd : Setup → ℕ → Option Files → Counters → DiskSeen → (Option Files → Counters → Type 0) → W → List Line → Reaching
   EventsEnd setup places held first left Since world events None text =
       (done : List Line) × (rest : List Line) × (events ≡ done ++ rest) × Plays setup places held first left world done text
   EventsEnd setup places held first left Since world events (Some Done) text = Plays setup places held first left world events text
@@ -131,7 +135,7 @@ module _ {P S W : Type 0} (game : Game P S W) where
   EventsEnd setup places held first left Since world events _ text = ⊥
 
   -- behind some of the lines, of which these are left: the text so far is written, and no fault was lost
-  pub record Behind {K : Type 0} (setup : Setup) (places : ℕ) (held : Option Files) (first : ℕ) (left : DiskView) (world : W)
+  pub record Behind {K : Type 0} (setup : Setup) (places : ℕ) (held : Option Files) (first : Counters) (left : DiskSeen) (world : W)
       (sink : Edge K (List ℕ)) (events rest : List Line) : Type 0 where
     pub done : List Line
     pub parts : events ≡ done ++ rest
@@ -140,5 +144,5 @@ module _ {P S W : Type 0} (game : Game P S W) where
     pub appended : Appends (before sink) (after sink) text
 
   -- a cluster was begun, and the disk has its first files
-  abbrev pub HasBegun : DiskView → W → Type 0
+  abbrev pub HasBegun : DiskSeen → W → Type 0
   HasBegun left world = (setup : Setup) × (places : ℕ) × (held : Option Files) × (Begun game) setup places held left world

@@ -1,6 +1,8 @@
 -- Words of public clauses: what callbacks promise of the sends that they tell.
 use Rattle.std.specs.Prelude.{ℕ, List, ◌∷◌, Option}
+use Rattle.disk_model.specs.Counts.{Counters}
 use Rattle.disk_model.specs.Disk.{Files}
+use Rattle.disk_model.specs.Seen.{DiskSeen}
 use Rattle.script_lines.specs.declared.line.Line.{Line}
 use Rattle.plain_service.specs.Setups.{Setup}
 use Rattle.cluster_facts.specs.Types.{Callback}
@@ -12,7 +14,7 @@ use Rattle.service_laws.specs.Telling.{TellSends, callbacks_of}
 use Rattle.played_runs.specs.Games.{Broken, Game}
 use Rattle.played_runs.specs.Playing.{PlaysFront}
 use Rattle.played_runs.specs.Promises.{Sentence}
-use Rattle.played_runs.specs.Views.{DiskView, files_told}
+use Rattle.played_runs.specs.Views.{files_told}
 
 -- the callbacks that a client got of its subscription of this key, handed out or not, the first one first; each of an item came
 -- with its receipt, so none is left out
@@ -38,8 +40,8 @@ module _ {P S W : Type 0} (game : Game P S W) where
 
   -- so it is behind each front of a script that was played on a disk that told these files before, wherever want of memory in the
   -- next line left the world and the disk as they are now
-  abbrev pub TellsAtWant : (held : Option Files) (left : DiskView) (world : W) → Type 0
+  abbrev pub TellsAtWant : (held : Option Files) (left : DiskSeen) (world : W) → Type 0
   TellsAtWant held left world =
-      (first : ℕ) (script done rest : List Line) (next : Line) (text : List ℕ) (front : (PlaysFront game) held first script done (next ∷ rest) text)
+      (first : Counters) (script done rest : List Line) (next : Line) (text : List ℕ) (front : (PlaysFront game) held first script done (next ∷ rest) text)
       (broken : (Broken game) front.setup front.goes.state (files_told front.goes.files held) left.files world)
       → TellsBroken front.setup front.goes.state (files_told front.goes.files held) left.files world broken

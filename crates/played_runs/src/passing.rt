@@ -1,10 +1,8 @@
 //! Lines that are played, of which nothing is written.
 ghost use Rattle.std.specs.Prelude.{◌∷◌, [], List};
-ghost use Rattle.played_runs.specs.Edges.{disk_edge};
 ghost use Rattle.played_runs.specs.Ends.{StoodUpTo};
 ghost use Rattle.played_runs.specs.Handed.{BeginsBy, CanDo, CanOpen, DoesLines, Opened};
 ghost use Rattle.played_runs.specs.Passing.{CanPass, HasGone, Passes, RisesPassing};
-ghost use Rattle.played_runs.specs.Views.{view_of};
 
 use crate::playable::Playable;
 use ais_values::Seq;
@@ -53,8 +51,8 @@ where
     E: Fn(&Line, &mut D, &mut W) -> Result<Seq<Seq<u8>>, EventAnswer>,
     requires can { CanDo W.game D.seen line.now disk.old world.old }
     requires event { DoesLines W.game D.seen E.Fn event.now }
-    ensures passes { Passes W.game (StoodUpTo (disk_edge D.seen disk.old disk.new)) (line.now ∷ [])
-        (view_of (D.seen disk.old)) (view_of (D.seen disk.new)) world.old world.new result }
+    ensures passes { Passes W.game (StoodUpTo D.seen) (line.now ∷ [])
+        (D.seen disk.old) (D.seen disk.new) world.old world.new result }
     ensures counts { RisesPassing ((D.seen disk.old).faults, (D.seen disk.new).faults) result }
 {
     match event(line, disk, world) {
@@ -80,11 +78,11 @@ fn pass_all<W, D: SharedDisk, E>(
 where
     W: Playable,
     E: Fn(&Line, &mut D, &mut W) -> Result<Seq<Seq<u8>>, EventAnswer>,
-    requires gone { HasGone W.game (view_of (D.seen disk.old)) world.old }
+    requires gone { HasGone W.game (D.seen disk.old) world.old }
     requires can { CanPass W.game lines.now }
     requires event { DoesLines W.game D.seen E.Fn event.now }
-    ensures passes { Passes W.game (StoodUpTo (disk_edge D.seen disk.old disk.new)) lines.now
-        (view_of (D.seen disk.old)) (view_of (D.seen disk.new)) world.old world.new result }
+    ensures passes { Passes W.game (StoodUpTo D.seen) lines.now
+        (D.seen disk.old) (D.seen disk.new) world.old world.new result }
     ensures counts { RisesPassing ((D.seen disk.old).faults, (D.seen disk.new).faults) result }
 {
     for line in lines {
@@ -110,11 +108,11 @@ pub fn pass_lines<W, D: SharedDisk, E>(
 where
     W: Playable,
     E: Fn(&Line, &mut D, &mut W) -> Result<Seq<Seq<u8>>, EventAnswer>,
-    requires gone { HasGone W.game (view_of (D.seen disk.old)) world.old }
+    requires gone { HasGone W.game (D.seen disk.old) world.old }
     requires can { CanPass W.game lines }
     requires event { DoesLines W.game D.seen E.Fn event.now }
-    ensures passes { Passes W.game (StoodUpTo (disk_edge D.seen disk.old disk.new)) lines
-        (view_of (D.seen disk.old)) (view_of (D.seen disk.new)) world.old world.new result }
+    ensures passes { Passes W.game (StoodUpTo D.seen) lines
+        (D.seen disk.old) (D.seen disk.new) world.old world.new result }
     ensures counts { RisesPassing ((D.seen disk.old).faults, (D.seen disk.new).faults) result }
 {
     let passed = pass_all(lines.as_slice(), disk, world, event);

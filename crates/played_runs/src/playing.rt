@@ -1,14 +1,15 @@
 //! Playing lines over any world: a script begins it on a disk without files, and then line follows line.
 ghost use Rattle.std.specs.Prelude.{◌≡◌, ◌∷◌, ◌++◌, ℕ, codes, Option, None, IfOk};
 ghost use Rattle.ais_values.specs.Causes.{RoseExactlyOn};
+ghost use Rattle.disk_model.specs.Counts.{read_more};
 ghost use Rattle.disk_model.specs.Disk.{Files};
 ghost use Rattle.plain_service.specs.Setups.{Setup};
-ghost use Rattle.played_runs.specs.Edges.{disk_edge, edge, stage};
+ghost use Rattle.played_runs.specs.Edges.{edge, stage};
 ghost use Rattle.played_runs.specs.Ends.{StoodUpTo};
 ghost use Rattle.played_runs.specs.Games.{Begun};
 ghost use Rattle.played_runs.specs.Handed.{BeginsBy, CanDo, DoesLines};
 ghost use Rattle.played_runs.specs.Steps.{CanFollow, CanPlay, EventsEnd, FindsNames, HasBegun, IsPlayable, LacksBehind, PlayedOn, PlaysLine};
-ghost use Rattle.played_runs.specs.Views.{HoldsNone, view_of};
+ghost use Rattle.played_runs.specs.Views.{HoldsNone, counters_of, names_told};
 ghost use Rattle.played_runs.specs.Writing.{Ended, IsNone, IsText, Written, unasked};
 
 use crate::ending::{Status8, root_holds};
@@ -35,8 +36,8 @@ where
     E: Fn(&Line, &mut D, &mut W) -> Result<Seq<Seq<u8>>, EventAnswer>,
     requires can { CanDo W.game D.seen line.now disk.old world.old }
     requires event { DoesLines W.game D.seen E.Fn event.now }
-    ensures { PlaysLine W.game line.now (view_of (D.seen disk.old)) (view_of (D.seen disk.new))
-        world.old world.new (edge K.written K.faults out.old out.new) result }
+    ensures { PlaysLine W.game line.now (D.seen disk.old) (D.seen disk.new) world.old world.new
+        (edge K.written K.faults out.old out.new) result }
 {
     match event(line, disk, world) {
         Ok(lines) => match write_lines(out, lines.as_slice()) {
@@ -59,17 +60,17 @@ fn play_events<W, K: Sink, D: SharedDisk, E>(
 where
     W: Playable,
     E: Fn(&Line, &mut D, &mut W) -> Result<Seq<Seq<u8>>, EventAnswer>,
-    requires begun { HasBegun W.game (view_of (D.seen disk.old)) world.old }
+    requires begun { HasBegun W.game (D.seen disk.old) world.old }
     requires follows { CanFollow W.game (W.game.now world.old) events.now }
     requires event { DoesLines W.game D.seen E.Fn event.now }
     ensures { (setup : Setup) (places : ℕ) (held : Option Files)
-        → Begun W.game setup places held (view_of (D.seen disk.old)) world.old
-        → Ended unasked ((D.seen disk.old).faults, (D.seen disk.new).faults)
-        (EventsEnd W.game setup places held (D.seen disk.old).faults
-        (view_of (D.seen disk.new))
-        (StoodUpTo (disk_edge D.seen disk.old disk.new)) world.new events.now)
-        (LacksBehind W.game setup places held (D.seen disk.old).faults (D.seen disk.new).files
-        world.new events.now) (edge K.written K.faults out.old out.new) result }
+        → Begun W.game setup places held (D.seen disk.old) world.old
+        → let first = counters_of (D.seen disk.old) in
+        Ended unasked ((D.seen disk.old).faults, (D.seen disk.new).faults)
+        (EventsEnd W.game setup places held first (D.seen disk.new) (StoodUpTo D.seen) world.new
+        events.now)
+        (LacksBehind W.game setup places held first (D.seen disk.new) world.new events.now)
+        (edge K.written K.faults out.old out.new) result }
 {
     for line in events {
         match play_line(line, out, disk, world, event) {
@@ -80,7 +81,7 @@ where
     Status8::Done
 }
 
-// Begins the cluster, and plays the lines behind its line.
+// Begins the cluster, and plays the lines behind its line. The stage is that of the disk before its names were asked for.
 fn open<W, K: Sink, D: SharedDisk, B, E>(
     opening: &Line,
     events: &[Line],
@@ -100,9 +101,10 @@ where
     requires unarmed { (D.seen disk.old).tally.armed ≡ None }
     requires begin { BeginsBy W.game D.seen B.Fn begin.now }
     requires event { DoesLines W.game D.seen E.Fn event.now }
-    ensures { PlayedOn W.game (opening.now ∷ events.now)
-        (stage (edge K.written K.faults out.old out.new) (disk_edge D.seen disk.old disk.new)
-        (D.seen disk.new).tally.armed world.old world.new) result }
+    ensures { (earlier : D) → D.seen disk.old ≡ names_told (D.seen earlier)
+        → PlayedOn W.game (opening.now ∷ events.now)
+        (stage (edge K.written K.faults out.old out.new) D.seen earlier disk.new
+        world.old world.new) result }
 {
     match begin(opening, disk, world) {
         Ok(()) => play_events(events, out, disk, world, event),
@@ -115,7 +117,8 @@ where
 pub fn first_name<D: SharedDisk>(alloc: Global, disk: &mut D) -> Result<Option<Text>, DiskAnswer>
     ensures found { IfOk result (λ found. FindsNames (D.seen disk.old).files found) }
     ensures same { (D.seen disk.new).files ≡ (D.seen disk.old).files }
-    ensures armed { (D.seen disk.new).tally.armed ≡ (D.seen disk.old).tally.armed }
+    ensures stops_stay { (D.seen disk.new).stops ≡ (D.seen disk.old).stops }
+    ensures counted { (D.seen disk.new).tally ≡ read_more 1 (D.seen disk.old).tally }
     ensures cause { RoseExactlyOn (D.seen disk.old).faults (D.seen disk.new).faults result
         DiskAnswer.Failed }
 {
@@ -164,8 +167,7 @@ where
     requires begin { BeginsBy W.game D.seen B.Fn begin.now }
     requires event { DoesLines W.game D.seen E.Fn event.now }
     ensures { PlayedOn W.game lines.now (stage (edge K.written K.faults out.old out.new)
-        (disk_edge D.seen disk.old disk.new) (D.seen disk.new).tally.armed world.old world.new)
-        result }
+        D.seen disk.old disk.new world.old world.new) result }
 {
     match first_name(alloc, disk) {
         Ok(None) => match lines.split_first() {
@@ -206,8 +208,7 @@ where
     requires begin { BeginsBy W.game D.seen B.Fn begin.now }
     requires event { DoesLines W.game D.seen E.Fn event.now }
     ensures { PlayedOn W.game lines (stage (edge K.written K.faults out.old out.new)
-        (disk_edge D.seen disk.old disk.new) (D.seen disk.new).tally.armed world.old world.new)
-        result }
+        D.seen disk.old disk.new world.old world.new) result }
 {
     let status = play_all(alloc, lines.as_slice(), out, disk, world, begin, event);
     mem::drop(lines);

@@ -2,15 +2,16 @@ use Rattle.std.proofs.Common.{◌≡◌, ℕ, List, ◌∷◌, ◌++◌, ◌∙�
 use Rattle.std.specs.Prelude.{codes, IfSome}
 use Rattle.std.specs.FinMap.{keys}
 use Rattle.disk_model.specs.declared.answers.DiskAnswer.TheVariants as answer
+use Rattle.disk_model.specs.declared.tally.Tally.{Tally}
 use Rattle.script_lines.specs.declared.line.Line.{Line}
 use Rattle.played_runs.specs.declared.ending.Status8.TheVariants.{DiskFault, RootNotEmpty}
 use Rattle.played_runs.specs.Counts.{HasRisen}
-use Rattle.played_runs.specs.Edges.{disk_edge, edge, fault_count, stage}
+use Rattle.played_runs.specs.Edges.{edge, fault_count, stage}
 use Rattle.played_runs.specs.Ends.{PlayEnds, PlayLacks, Unopened, AtNames, fault_line}
 use Rattle.played_runs.specs.Writing.{Counting, Ended, IsNone, IsText, Standing, unasked}
 use Rattle.played_runs.proofs.CountSteps.{other-stood, stood-on}
-use Rattle.played_runs.proofs.EndingSteps.{lacks-earlier, play-earlier, lacked, text-ends, text-written}
-use Rattle.played_runs.proofs.WritingSteps.{ended-later, written-as}
+use Rattle.played_runs.proofs.EndingSteps.{lacked, names-told, text-ends, text-written}
+use Rattle.played_runs.proofs.WritingSteps.{written-as}
 use Rattle.played_runs.proofs.playing.play_all.Goals as goal
 
 pub returns-in-Ok-Some : goal.returns-in-Ok-Some
@@ -19,49 +20,47 @@ returns-in-Ok-Some g c =
     let stood = found.cause.stands in
     let names = rw c.in-Ok-Some.field-0-is at found.found in
     let sink = edge g.K.Sink.written g.K.Sink.faults c.args.out.now c.write_held.new.out in
-    let scene = stage sink (disk_edge g.D.SharedDisk.seen c.args.disk.now c.first_name.new.disk) (g.D.SharedDisk.seen c.first_name.new.disk).tally.armed c.args.world.now c.args.world.now in
+    let scene = stage sink g.D.SharedDisk.seen c.args.disk.now c.first_name.new.disk c.args.world.now c.args.world.now in
     let disk = fault_count scene.disk in
     let name = c.as_slice.result.now in
     let L : List ℕ → Type 0 = λ one. IfSome (g.D.SharedDisk.seen c.args.disk.now).files (λ f. (others : List (List ℕ)) × (keys f ≡ one ∷ others)) in
     let least = subst L (sym c.as_slice.ensures.bytes) names in
+    let named = names-told (g.D.SharedDisk.seen c.args.disk.now) (g.D.SharedDisk.seen c.first_name.new.disk) found.same found.counted stood found.stops_stay in
     let text = codes "root not empty: " ++ (name ++ codes "\n") in
     let E = Counting unasked disk (PlayEnds g.W.Playable.game c.args.lines.now scene) in
-    written-as (IsText RootNotEmpty text) E IsNone (Standing unasked disk (PlayLacks g.W.Playable.game c.args.lines.now scene)) sink c.write_held.result (text-ends E RootNotEmpty text (record { name = name; least = least; same = found.same; world = refl; printed = refl }, (refl, stood))) (λ one none. (Unopened none found.same refl, refl, stood-on disk stood)) c.write_held.ensures
+    written-as (IsText RootNotEmpty text) E IsNone (Standing unasked disk (PlayLacks g.W.Playable.game c.args.lines.now scene)) sink c.write_held.result (text-ends E RootNotEmpty text (record { name = name; least = least; same = named; world = refl; printed = refl }, (refl, stood))) (λ one none. (Unopened none named refl, refl, stood-on disk stood)) c.write_held.ensures
 
 pub returns-in-Some : goal.returns-in-Some
 returns-in-Some g c =
-    let written = g.K.Sink.written in
-    let sink_faults = g.K.Sink.faults in
-    let sink = edge written sink_faults c.args.out.now c.open.new.out in
-    let script = c.in-Some.opening.now ∷ c.in-Some.events.now in
-    let armed = (g.D.SharedDisk.seen c.open.new.disk).tally.armed in
-    let scene = stage sink (disk_edge g.D.SharedDisk.seen c.args.disk.now c.open.new.disk) armed c.args.world.now c.open.new.world in
-    let later = stage sink (disk_edge g.D.SharedDisk.seen c.first_name.new.disk c.open.new.disk) armed c.args.world.now c.open.new.world in
+    let sink = edge g.K.Sink.written g.K.Sink.faults c.args.out.now c.open.new.out in
+    let scene = stage sink g.D.SharedDisk.seen c.args.disk.now c.open.new.disk c.args.world.now c.open.new.world in
     let found = c.in-Ok-None.ensures in
+    let named = names-told (g.D.SharedDisk.seen c.args.disk.now) (g.D.SharedDisk.seen c.first_name.new.disk) found.same found.counted found.cause.stands found.stops_stay in
     subst (λ (lines : List Line). Ended unasked (fault_count scene.disk) (PlayEnds g.W.Playable.game lines scene) (PlayLacks g.W.Playable.game lines scene) sink c.open.result) (sym c.in-Some.ensures.cases.0)
-    (ended-later unasked (g.D.SharedDisk.seen c.args.disk.now).faults (g.D.SharedDisk.seen c.first_name.new.disk).faults (g.D.SharedDisk.seen c.open.new.disk).faults (PlayEnds g.W.Playable.game script later) (PlayEnds g.W.Playable.game script scene) (PlayLacks g.W.Playable.game script later) (PlayLacks g.W.Playable.game script scene) sink c.open.result found.cause.stands
-    (play-earlier g.W.Playable.game written sink_faults c.args.out.now c.open.new.out g.D.SharedDisk.seen armed c.args.world.now c.open.new.world c.args.disk.now c.first_name.new.disk c.open.new.disk script found.same found.cause.stands)
-    (lacks-earlier g.W.Playable.game written sink_faults c.args.out.now c.open.new.out g.D.SharedDisk.seen armed c.args.world.now c.open.new.world c.args.disk.now c.first_name.new.disk c.open.new.disk script found.same found.cause.stands)
-    c.open.ensures)
+    (c.open.ensures c.args.disk.now named)
 
 pub returns-in-Err-Memory : goal.returns-in-Err-Memory
 returns-in-Err-Memory g c =
     let stood = other-stood (g.D.SharedDisk.seen c.args.disk.now).faults (g.D.SharedDisk.seen c.first_name.new.disk).faults c.in-Err-Memory.field-0 answer.Failed answer.Memory c.in-Err-Memory.ensures.cause c.in-Err-Memory.field-0-is (λ is. cc) in
-    lacked _ _ _ (Unopened refl c.in-Err-Memory.ensures.same refl, refl, stood-on ((g.D.SharedDisk.seen c.args.disk.now).faults, (g.D.SharedDisk.seen c.first_name.new.disk).faults) stood) refl
+    let asked = c.in-Err-Memory.ensures in
+    let named = names-told (g.D.SharedDisk.seen c.args.disk.now) (g.D.SharedDisk.seen c.first_name.new.disk) asked.same asked.counted stood asked.stops_stay in
+    lacked _ _ _ (Unopened refl named refl, refl, stood-on ((g.D.SharedDisk.seen c.args.disk.now).faults, (g.D.SharedDisk.seen c.first_name.new.disk).faults) stood) refl
 
 pub returns-in-Err-Stopped : goal.returns-in-Err-Stopped
 returns-in-Err-Stopped g c =
     let stood = other-stood (g.D.SharedDisk.seen c.args.disk.now).faults (g.D.SharedDisk.seen c.first_name.new.disk).faults c.in-Err-Stopped.field-0 answer.Failed answer.Stopped c.in-Err-Stopped.ensures.cause c.in-Err-Stopped.field-0-is (λ is. cc) in
-    lacked _ _ _ (Unopened refl c.in-Err-Stopped.ensures.same refl, refl, stood-on ((g.D.SharedDisk.seen c.args.disk.now).faults, (g.D.SharedDisk.seen c.first_name.new.disk).faults) stood) refl
+    let asked = c.in-Err-Stopped.ensures in
+    let named = names-told (g.D.SharedDisk.seen c.args.disk.now) (g.D.SharedDisk.seen c.first_name.new.disk) asked.same asked.counted stood asked.stops_stay in
+    lacked _ _ _ (Unopened refl named refl, refl, stood-on ((g.D.SharedDisk.seen c.args.disk.now).faults, (g.D.SharedDisk.seen c.first_name.new.disk).faults) stood) refl
 
 pub returns-in-Err-Failed : goal.returns-in-Err-Failed
 returns-in-Err-Failed g c =
     let sink = edge g.K.Sink.written g.K.Sink.faults c.args.out.now c.write_broken.new.out in
-    let scene = stage sink (disk_edge g.D.SharedDisk.seen c.args.disk.now c.first_name.new.disk) (g.D.SharedDisk.seen c.first_name.new.disk).tally.armed c.args.world.now c.args.world.now in
+    let scene = stage sink g.D.SharedDisk.seen c.args.disk.now c.first_name.new.disk c.args.world.now c.args.world.now in
     let disk = fault_count scene.disk in
     let failed = c.in-Err-Failed.ensures in
     let risen : HasRisen disk = (failed.cause.later, failed.cause.rose (ap Err c.in-Err-Failed.field-0-is)) in
-    text-written (Counting unasked disk (PlayEnds g.W.Playable.game c.args.lines.now scene)) (Standing unasked disk (PlayLacks g.W.Playable.game c.args.lines.now scene)) DiskFault fault_line sink c.write_broken.result (AtNames failed.same refl refl, (refl, risen)) c.write_broken.ensures
+    text-written (Counting unasked disk (PlayEnds g.W.Playable.game c.args.lines.now scene)) (Standing unasked disk (PlayLacks g.W.Playable.game c.args.lines.now scene)) DiskFault fault_line sink c.write_broken.result (AtNames (record { files = failed.same; tally = failed.counted; stops = failed.stops_stay }) refl refl, (refl, risen)) c.write_broken.ensures
 
 pub open-requires-clause-unarmed : goal.open-requires-clause-unarmed
-open-requires-clause-unarmed g c = c.in-Ok-None.ensures.armed ∙ c.requires.unarmed
+open-requires-clause-unarmed g c = ap (λ (tally : Tally). tally.armed) c.in-Ok-None.ensures.counted ∙ c.requires.unarmed

@@ -1,10 +1,10 @@
 use Rattle.std.proofs.Common.{ℕ, ◌+◌, ◌≤◌, List, drop, refl, ◌∙◌, subst, arith}
 use Rattle.std.proofs.Math.ListN.{drop_of_length-le}
 use Rattle.script_lines.specs.declared.line.Line.{Line}
-use Rattle.played_runs.specs.Edges.{disk_edge, edge}
+use Rattle.played_runs.specs.Edges.{edge}
 use Rattle.played_runs.specs.Ends.{StoodUpTo}
 use Rattle.played_runs.specs.Steps.{Behind, CanFollow}
-use Rattle.played_runs.specs.Views.{view_of}
+use Rattle.played_runs.specs.Views.{counters_of}
 use Rattle.played_runs.proofs.CountSteps.{on-same}
 use Rattle.played_runs.proofs.GoingSteps.{behind-start, behind-next, behind-last, behind-ends, follow-next, from-place, going-state, going-tells}
 use Rattle.played_runs.proofs.playing.play_events.Goals as goal
@@ -14,7 +14,7 @@ loop-line-init g c =
     let disk = c.args.disk.now in
     record {
       follows = c.requires.follows;
-      behind = λ setup places held begun. behind-start g.W.Playable.game g.W.Playable.plays g.K.Sink.written g.K.Sink.faults c.args.out.now setup places held (view_of (g.D.SharedDisk.seen disk)) c.args.world.now c.args.events.now begun;
+      behind = λ setup places held begun. behind-start g.W.Playable.game g.W.Playable.plays g.K.Sink.written g.K.Sink.faults c.args.out.now setup places held (g.D.SharedDisk.seen disk) c.args.world.now c.args.events.now begun;
       sink = refl;
       disk = on-same (g.D.SharedDisk.seen disk).faults;
     }
@@ -26,12 +26,12 @@ returns-in-Err g c setup places held begun =
     let events = c.args.events.now in
     let line = c.line-item.result in
     let others = drop (c.loop-line.line-index + 1) events in
-    let mid = view_of (g.D.SharedDisk.seen c.loop-line.disk) in
-    let left = view_of (g.D.SharedDisk.seen c.play_line.new.disk) in
-    let first = (g.D.SharedDisk.seen c.args.disk.now).faults in
+    let mid = g.D.SharedDisk.seen c.loop-line.disk in
+    let left = g.D.SharedDisk.seen c.play_line.new.disk in
+    let first = counters_of (g.D.SharedDisk.seen c.args.disk.now) in
     let at = from-place events c.loop-line.line-index line c.loop-line-test.true c.line-item.is in
     let behind = subst (λ (rest : List Line). (Behind g.W.Playable.game) setup places held first mid c.loop-line.world (edge written sink c.args.out.now c.loop-line.out) events rest) at (c.loop-line.invariant.behind setup places held begun) in
-    behind-ends g.W.Playable.game g.W.Playable.plays setup places held first written sink c.args.out.now c.loop-line.out c.play_line.new.out mid left first mid.faults left.faults (StoodUpTo (disk_edge g.D.SharedDisk.seen c.args.disk.now c.play_line.new.disk)) c.loop-line.world c.play_line.new.world events line others c.in-Err.status behind c.loop-line.invariant.sink c.loop-line.invariant.disk
+    behind-ends g.W.Playable.game g.W.Playable.plays setup places held first written sink c.args.out.now c.loop-line.out c.play_line.new.out mid left first.faults mid.faults left.faults (StoodUpTo g.D.SharedDisk.seen) c.loop-line.world c.play_line.new.world events line others c.in-Err.status behind c.loop-line.invariant.sink c.loop-line.invariant.disk
     (record { mid = c.loop-line.disk; told = refl; count = refl })
     (c.in-Err.ensures setup behind.going.state behind.going.good behind.going.shows behind.going.armed (going-tells g.W.Playable.game g.W.Playable.plays setup places held first mid c.loop-line.world behind.done behind.text behind.going))
 
@@ -44,9 +44,9 @@ loop-line-preserved g c =
     let others = drop (c.loop-line.line-index + 1) events in
     let old = c.loop-line.world in
     let new = c.play_line.new.world in
-    let mid = view_of (g.D.SharedDisk.seen c.loop-line.disk) in
-    let left = view_of (g.D.SharedDisk.seen c.play_line.new.disk) in
-    let first = (g.D.SharedDisk.seen c.args.disk.now).faults in
+    let mid = g.D.SharedDisk.seen c.loop-line.disk in
+    let left = g.D.SharedDisk.seen c.play_line.new.disk in
+    let first = counters_of (g.D.SharedDisk.seen c.args.disk.now) in
     let at = from-place events c.loop-line.line-index line c.loop-line-test.true c.line-item.is in
     let follows = subst (λ (rest : List Line). (CanFollow g.W.Playable.game) (g.W.Playable.game.now old) rest) at c.loop-line.invariant.follows in
     let begun = c.requires.begun in
@@ -67,9 +67,9 @@ loop-line-preserved g c =
 
 pub returns : goal.returns
 returns g c setup places held begun =
-    let left = view_of (g.D.SharedDisk.seen c.loop-line.disk) in
+    let left = g.D.SharedDisk.seen c.loop-line.disk in
     let disk : ℕ × ℕ = ((g.D.SharedDisk.seen c.args.disk.now).faults, (g.D.SharedDisk.seen c.loop-line.disk).faults) in
-    behind-last g.W.Playable.game g.W.Playable.plays setup places held (g.D.SharedDisk.seen c.args.disk.now).faults g.K.Sink.written g.K.Sink.faults c.args.out.now c.loop-line.out left disk (StoodUpTo (disk_edge g.D.SharedDisk.seen c.args.disk.now c.loop-line.disk)) c.loop-line.world c.args.events.now (drop c.loop-line.line-index c.args.events.now) (drop_of_length-le c.args.events.now (omega arith)) c.loop-line.invariant.sink c.loop-line.invariant.disk (c.loop-line.invariant.behind setup places held begun)
+    behind-last g.W.Playable.game g.W.Playable.plays setup places held (counters_of (g.D.SharedDisk.seen c.args.disk.now)) g.K.Sink.written g.K.Sink.faults c.args.out.now c.loop-line.out left disk (StoodUpTo g.D.SharedDisk.seen) c.loop-line.world c.args.events.now (drop c.loop-line.line-index c.args.events.now) (drop_of_length-le c.args.events.now (omega arith)) c.loop-line.invariant.sink c.loop-line.invariant.disk (c.loop-line.invariant.behind setup places held begun)
 
 pub play_line-requires-clause-can : goal.play_line-requires-clause-can
 play_line-requires-clause-can g c =
@@ -82,5 +82,5 @@ play_line-requires-clause-can g c =
     record {
       spelled = follows.0;
       follows = follows.1;
-      state = going-state game g.W.Playable.plays begun.0 begun.1 begun.2 (g.D.SharedDisk.seen c.args.disk.now).faults (view_of (g.D.SharedDisk.seen disk)) c.loop-line.world one.done one.text one.going;
+      state = going-state game g.W.Playable.plays begun.0 begun.1 begun.2 (counters_of (g.D.SharedDisk.seen c.args.disk.now)) (g.D.SharedDisk.seen disk) c.loop-line.world one.done one.text one.going;
     }
