@@ -1,11 +1,12 @@
 -- The start of a cluster.
-use Rattle.std.proofs.Common.{◌≡◌, ℕ, suc, false, List, [], ◌∷◌, Option, Some, None, refl, ap, sym, subst, ◌∙◌, inr}
-use Rattle.std.specs.Prelude.{ℤ, option_map, Err}
+use Rattle.std.proofs.Common.{◌≡◌, ℕ, suc, false, List, [], ◌∷◌, Option, Some, None, refl, ap, sym, subst, ◌∙◌, inl, inr}
+use Rattle.std.specs.Prelude.{ℤ, option_map, length, Err}
+use Rattle.ais_values.specs.Causes.{RoseExactlyOn}
 use Rattle.disk_model.specs.Disk.{Files}
 use Rattle.disk_model.specs.Failures.{WhereTold}
 use Rattle.disk_model.specs.Seen.{DiskSeen}
 use Rattle.disk_model.specs.Counts.{lowered, passed, reaches}
-use Rattle.disk_model.specs.DeviceCalls.{DeviceCall, all_applied, DoesFront, FailsAfter, Breaks}
+use Rattle.disk_model.specs.DeviceCalls.{DeviceCall, all_applied, DoesFront, FailsAfter, LacksMemoryAfter, Breaks}
 use Rattle.disk_model.specs.declared.answers.DiskAnswer.{DiskAnswer}
 use Rattle.disk_model.specs.declared.answers.DiskAnswer.TheVariants.{Memory, Failed, Stopped}
 use Rattle.disk_model.specs.declared.tally.Tally.{Tally}
@@ -28,10 +29,11 @@ use Rattle.mirror.specs.declared.state.NodeState.{NodeState as Node}
 use Rattle.cluster_clients.specs.declared.answer.EventAnswer.{EventAnswer}
 use Rattle.cluster_core.specs.Game.{world_game}
 use Rattle.cluster_core.specs.declared.world.World.{World}
-use Rattle.cluster_core.specs.Worlds.{Shows, IsGood, LeavesFiles, pair_start, view_of}
+use Rattle.cluster_core.specs.Worlds.{Shows, IsGood, LeavesFiles, pair_start}
 use Rattle.cluster_core.specs.Beginning.{Begins}
-use Rattle.played_runs.specs.Views.{HoldsNone}
-use Rattle.played_runs.specs.Games.{Begun, LeavesBroken}
+use Rattle.played_runs.specs.Views.{HoldsNone, LackedDeeds, behind_deeds, counters_of}
+use Rattle.played_runs.specs.Games.{Begun, LeavesOpening}
+use Rattle.played_runs.proofs.CountSteps.{other-stood}
 use Rattle.cluster_core.specs.Starting.{active_at, wells_of, world_of, broken_by, StartsBoth, StartsWorld}
 use Rattle.cluster_core.proofs.BeginSpelled.{spelled-begins}
 
@@ -63,13 +65,20 @@ passed-unarmed : (count : ℕ) (before after : Tally) → after ≡ passed count
 passed-unarmed count before after is unarmed = ap (λ (t : Tally). t.armed) is ∙ ap (lowered count) unarmed
 
 -- **the start was done**
-pub begun : (setup : Setup) (places count : ℕ) (held : Option Files) (before left : DiskSeen) (world : World) → CanBegin setup → world ≡ world_of (active_at setup) (standby_by setup [] false) setup.start places → HoldsNone held → left.files ≡ option_map (all_applied (calls_of_all (opening_of setup))) held → left.tally ≡ passed count before.tally → before.tally.armed ≡ None → (Begun world_game) setup places held (view_of left) world
+pub begun : (setup : Setup) (places count : ℕ) (held : Option Files) (before left : DiskSeen) (world : World) → CanBegin setup → world ≡ world_of (active_at setup) (standby_by setup [] false) setup.start places → HoldsNone held → left.files ≡ option_map (all_applied (calls_of_all (opening_of setup))) held → left.tally ≡ passed count before.tally → before.tally.armed ≡ None → (Begun world_game) setup places held left world
 begun setup places count held before left world begins is none done counted unarmed = record {
   good = good-start setup places begins;
   shows = subst (λ w. Shows setup (pair_start setup.start places) w) (sym is) (shows-start setup places);
   files = files-start setup places held left.files begins none done;
   armed = passed-unarmed count before.tally left.tally counted unarmed;
 }
+
+-- and the disk counted its calls
+pub begun-counts : (setup : Setup) (deeds : List Deed) (held left : DiskSeen) → deeds ≡ opening_of setup → left.tally ≡ passed (length (calls_of_all deeds)) held.tally → left.faults ≡ held.faults → left.stops ≡ held.stops → counters_of left ≡ behind_deeds setup (counters_of held)
+begun-counts setup deeds held left are counted stood stopped =
+    let tally : left.tally ≡ passed (length (calls_of_all (opening_of setup))) held.tally =
+    counted ∙ ap (λ (made : List Deed). passed (length (calls_of_all made)) held.tally) are in
+    λ i. record { faults = stood i; stops = stopped i; tally = tally i }
 
 -- the start was not done
 
@@ -79,20 +88,46 @@ front-stands done None (Some new) told = absurd told
 front-stands done (Some old) None told = absurd told
 front-stands done (Some old) (Some new) told = ap Some told
 
-broken-stands : (T : Type 0) (setup : Setup) (answer : DiskAnswer) (calls : List DeviceCall) (held left : Option Files) (before after : Tally) → calls ≡ calls_of_all (opening_of setup) → before.armed ≡ None → Breaks answer calls held left before after → LeavesBroken {T = T} setup held left (Err (broken_by answer))
-broken-stands T setup Memory calls held left before after are unarmed broke =
-    subst (λ cs. DoesFront cs held left) are
-    (record { done = broke.1.done; undone = broke.1.broken ∷ broke.1.undone; in_order = broke.1.in_order; stands = front-stands broke.1.done held left broke.1.left })
-broken-stands T setup Failed calls held left before after are unarmed broke =
-    (refl, broke.0, subst (λ cs. FailsAfter cs broke.0 held left) are broke.1)
-broken-stands T setup Stopped calls held left before after are unarmed broke =
-    let none : reaches (suc broke.0) before.armed ≡ false = ap (reaches (suc broke.0)) unarmed in absurd (cc (none, broke.2.1))
+-- before the deeds nothing was asked of the disk
+pub unbegun-stands : (setup : Setup) (held : DiskSeen) → held.tally.armed ≡ None → LackedDeeds setup held held
+unbegun-stands setup held unarmed = record {
+  front = record { done = []; undone = calls_of_all (opening_of setup); in_order = refl; stands = same held.files };
+  calls = inl refl;
+  faults = refl;
+  stops = refl;
+  armed = unarmed;
+}
+  where
+    same : (files : Option Files) → files ≡ option_map (all_applied []) files
+    same None = refl
+    same (Some one) = refl
 
-pub start-broken : (T : Type 0) (setup : Setup) (answer : DiskAnswer) (told : EventAnswer) (deeds : List Deed) (held same left : Option Files) (before after : Tally) → deeds ≡ opening_of setup → told ≡ broken_by answer → same ≡ held → before.armed ≡ None → Breaks answer (calls_of_all deeds) same left before after → LeavesBroken {T = T} setup held left (Err told)
-start-broken T setup answer told deeds held same left before after are told_is stays unarmed broke =
-    subst (λ (f : Option Files). LeavesBroken {T = T} setup f left (Err told)) stays
-    (subst (λ t. LeavesBroken {T = T} setup same left (Err t)) (sym told_is)
-    (broken-stands T setup answer (calls_of_all deeds) same left before after (ap calls_of_all are) unarmed broke))
+broken-stands : (T : Type 0) (setup : Setup) (answer : DiskAnswer) (calls : List DeviceCall) (held left : DiskSeen) → calls ≡ calls_of_all (opening_of setup) → held.tally.armed ≡ None → RoseExactlyOn {T = T} held.faults left.faults (Err answer) Failed → RoseExactlyOn {T = T} held.stops left.stops (Err answer) Stopped → Breaks answer calls held.files left.files held.tally left.tally → LeavesOpening {T = T} setup held left (Err (broken_by answer))
+broken-stands T setup Memory calls held left are unarmed cause stop broke = record {
+  front =
+      subst (λ cs. DoesFront cs held.files left.files) are
+      (record { done = broke.1.done; undone = broke.1.broken ∷ broke.1.undone; in_order = broke.1.in_order; stands = front-stands broke.1.done held.files left.files broke.1.left });
+  calls = inr (broke.0, subst (λ cs. LacksMemoryAfter cs broke.0 held.files left.files) are broke.1, broke.2.1);
+  faults = other-stood held.faults left.faults Memory Failed Memory cause refl (λ is. cc);
+  stops = other-stood held.stops left.stops Memory Stopped Memory stop refl (λ is. cc);
+  armed = ap (λ (t : Tally). t.armed) broke.2.1 ∙ ap (lowered broke.0) unarmed;
+}
+broken-stands T setup Failed calls held left are unarmed cause stop broke = (
+  refl,
+  record {
+    count = broke.0;
+    fails = subst (λ cs. FailsAfter cs broke.0 held.files left.files) are broke.1;
+    tally = broke.2.1;
+    stops = other-stood held.stops left.stops Failed Stopped Failed stop refl (λ is. cc);
+  },
+)
+broken-stands T setup Stopped calls held left are unarmed cause stop broke =
+    let none : reaches (suc broke.0) held.tally.armed ≡ false = ap (reaches (suc broke.0)) unarmed in absurd (cc (none, broke.2.1))
+
+pub start-broken : (T : Type 0) (setup : Setup) (answer : DiskAnswer) (told : EventAnswer) (deeds : List Deed) (held left : DiskSeen) → deeds ≡ opening_of setup → told ≡ broken_by answer → held.tally.armed ≡ None → RoseExactlyOn {T = T} held.faults left.faults (Err answer) Failed → RoseExactlyOn {T = T} held.stops left.stops (Err answer) Stopped → Breaks answer (calls_of_all deeds) held.files left.files held.tally left.tally → LeavesOpening {T = T} setup held left (Err told)
+start-broken T setup answer told deeds held left are told_is unarmed cause stop broke =
+    subst (λ t. LeavesOpening {T = T} setup held left (Err t)) (sym told_is)
+    (broken-stands T setup answer (calls_of_all deeds) held left (ap calls_of_all are) unarmed cause stop broke)
 
 -- a cluster line of a script tells what a service begins as
 pub begins-as : (one : Line) (start : ℤ) (queue callbacks : ℕ) (alarm ntf sys : WellOptions) (wells : List StreamAttrs) → one ≡ Cluster start queue callbacks alarm ntf sys → wells ≡ wells_of alarm ntf sys

@@ -1,7 +1,8 @@
 -- An event of a world is one of its parts.
-use Rattle.std.proofs.Common.{◌≡◌, ℕ, ◌≤◌, List, [], ◌++◌, refl, ap, sym, ◌∙◌, subst, arith}
+use Rattle.std.proofs.Common.{◌≡◌, ℕ, ◌≤◌, Option, Some, None, List, [], ◌++◌, refl, ap, sym, ◌∙◌, subst, arith}
 use Rattle.std.proofs.lemmas.Bool.{ltb-true}
-use Rattle.std.specs.Prelude.{ℤ}
+use Rattle.std.specs.Prelude.{ℤ, IfSome, option_map}
+use Rattle.disk_model.specs.Disk.{Files}
 use Rattle.disk_model.specs.Seen.{DiskSeen}
 use Rattle.disk_model.specs.declared.answers.DiskAnswer.TheVariants.{Memory, Failed, Stopped}
 use Rattle.script_lines.specs.declared.line.Line.{Line}
@@ -10,6 +11,7 @@ use Rattle.script_lines.specs.declared.line.Server.{Server}
 use Rattle.script_lines.specs.declared.line.Server.TheVariants.{A, B}
 use Rattle.wire.specs.declared.message.Message.{Message}
 use Rattle.plain_service.specs.Setups.{Setup}
+use Rattle.plain_service.specs.Storing.{files_of}
 use Rattle.cluster_facts.specs.Types.{Entry}
 use Rattle.cluster_facts.specs.History.{Hand, Empty, Waiting, Applied, Ready}
 use Rattle.cluster_events.specs.Lines.{Told}
@@ -20,6 +22,8 @@ use Rattle.group_cluster.specs.Seats as defined
 use Rattle.group_cluster.specs.Seats.{Stance, Out, Owed, Linking, Standby, Peers, count_seats, is_standby}
 use Rattle.cluster_rounds.specs.declared.cluster.Cluster.{Cluster}
 use Rattle.cluster_rounds.specs.Broken as cluster
+use Rattle.cluster_rounds.specs.Kits.{device_by}
+use Rattle.cluster_rounds.specs.Seen.{IsRead}
 use Rattle.cluster_rounds.specs.Worlds as clusters
 use Rattle.cluster_lines.specs.Lines.{CanPlay}
 use Rattle.cluster_lines.specs.Playing.{FaultLeaves as FaultLeavesParts, LineEnded, ShowFails}
@@ -27,14 +31,14 @@ use Rattle.group_servers.specs.declared.group.Seat.{Seat}
 use Rattle.group_servers.specs.declared.group.Group.{Group}
 use Rattle.group_servers.specs.GroupKit.{group_kit, group_script}
 use Rattle.group_servers.specs.GroupNodes.{active_by, node_by, seats_by}
-use Rattle.group_servers.specs.GroupCounts.{FellIn}
+use Rattle.group_servers.specs.GroupCounts.{CountsLine, FellIn}
 use Rattle.group_servers.proofs.FallSteps.{few-standbys}
 use Rattle.cluster_core.specs.Game.{world_game}
 use Rattle.cluster_core.specs.declared.world.World.{World}
-use Rattle.cluster_core.specs.Worlds.{IsGood, Shows, named, parts_of, seats_beside, unnamed, view_of}
+use Rattle.cluster_core.specs.Worlds.{IsGood, Shows, named, parts_of, seats_beside, unnamed}
 use Rattle.played_runs.specs.Games.{HasState}
-use Rattle.played_runs.specs.Games.{Broken, BreaksOn}
-use Rattle.played_runs.specs.Views.{files_alone}
+use Rattle.played_runs.specs.Games.{Broken, BreaksOn, Lacks}
+use Rattle.played_runs.specs.Views.{counters_of, files_alone}
 use Rattle.cluster_core.specs.Playing.{IsEventLine}
 use Rattle.played_runs.specs.Games.{DoesEvent, EndsEvent, FaultLeaves}
 use Rattle.cluster_core.specs.Parts.{BreaksWhole, PlaysWhole, acting_as, acting_in, other_seat, whole_of}
@@ -104,8 +108,13 @@ few-fell : (standbys : ℕ) (next : Line) (before now : ℕ) (told : List Told) 
 few-fell standbys (line.Crash server) before now told few fell = λ less. let more = ltb-true 1 standbys (fell less).0 in absurd (omega arith)
 few-fell standbys _ before now told few fell = λ less. fell less
 
+-- files that a disk tells are those of the history, where it tells any
+files-told : (held : Option Files) (files : Files) → IfSome held (λ one. one ≡ files) → held ≡ option_map (λ _. files) held
+files-told None files told = refl
+files-told (Some one) files told = ap Some told
+
 -- **what a line led the parts to it led the world to**
-pub does-event : (next : Line) (old new : World) (before after lines : List (List ℕ)) (held left : DiskSeen) → before ≡ [] → lines ≡ after → PlaysWhole next old new before after held left → (DoesEvent world_game) next lines old new (view_of held) (view_of left)
+pub does-event : (next : Line) (old new : World) (before after lines : List (List ℕ)) (held left : DiskSeen) → before ≡ [] → lines ≡ after → PlaysWhole next old new before after held left → (DoesEvent world_game) next lines old new held left
 does-event next old new before after lines held left none same whole setup state good shows armed tells =
     let parts = whole.0 in
     let done = whole.2 setup state good (parts-show setup state old good shows) armed tells in
@@ -117,6 +126,9 @@ does-event next old new before after lines held left none same whole setup state
         step = record { fails = done.happened; happens = done.leads; caused = done.uses.caused };
         later = done.uses.later;
         felled = few-fell (count_seats is_standby state.peers.seats) next held.faults left.faults done.outcome.told (few-standbys state.peers.acting state.peers.seats good.steady.good.names good.steady.good.apart) done.uses.felled;
+        counts =
+            let C : Option Files → Type 0 = λ shown. CountsLine next (device_by setup done.happened) shown state done.outcome.state (counters_of held) (counters_of left) in
+            subst C (files-told held.files (files_of setup state.world.core.answered) tells) done.uses.counts;
       };
       good = done.is.1;
       shows = whole-shows setup done.outcome.state parts new whole.1 done.is.1 done.is.0;
@@ -145,24 +157,25 @@ parts-broken acting setup state held left parts broken = record {
   files = broken.files;
 }
 
-pub lacks-event : (next : Line) (old new : World) (before after : List (List ℕ)) (held left : DiskSeen) → BreaksWhole Memory next old new before after held left → (BreaksOn world_game) old new (view_of held) (view_of left)
+pub lacks-event : (next : Line) (old new : World) (before after : List (List ℕ)) (held left : DiskSeen) → BreaksWhole Memory next old new before after held left → (BreaksOn world_game) old new held left
 lacks-event next old new before after held left whole setup state good shows armed =
     let parts = whole.0 in
     let broken = whole.2 setup state good (parts-show setup state old good shows) armed in
-    subst (λ (w : World). (Broken world_game) setup state held.files left.files w) (sym whole.1) (parts-broken state.peers.acting setup state held left parts broken.0)
+    subst (λ (w : World). (Broken world_game) setup state held.files left.files w × (Lacks world_game) setup state held left w) (sym whole.1)
+    (parts-broken state.peers.acting setup state held left parts broken.0, broken.1)
 
 -- no event of a state ends as the disk stops
-pub stops-event : (next : Line) (old new : World) (before after : List (List ℕ)) (held left : DiskSeen) → BreaksWhole Stopped next old new before after held left → (BreaksOn world_game) old new (view_of held) (view_of left)
+pub stops-event : (next : Line) (old new : World) (before after : List (List ℕ)) (held left : DiskSeen) → BreaksWhole Stopped next old new before after held left → (BreaksOn world_game) old new held left
 stops-event next old new before after held left whole setup state good shows armed =
     absurd (whole.2 setup state good (parts-show setup state old good shows) armed)
 
 -- a line that ended
-ends-event : (next : Line) (old new : World) (parts : Cluster (Group 2)) (before after : List (List ℕ)) (held left : DiskSeen) → new ≡ whole_of parts → ((setup : Setup) (state : State Peers) → (clusters.IsGood (group_kit 2)) setup state → (clusters.Shows (group_kit 2)) setup state (parts_of (acting_in old) old) → (group_kit 2).Armed state.peers held → (LineEnded (group_kit 2) group_script) setup state next parts before after held left) → (EndsEvent world_game) next old new before after (view_of held) (view_of left)
+ends-event : (next : Line) (old new : World) (parts : Cluster (Group 2)) (before after : List (List ℕ)) (held left : DiskSeen) → new ≡ whole_of parts → ((setup : Setup) (state : State Peers) → (clusters.IsGood (group_kit 2)) setup state → (clusters.Shows (group_kit 2)) setup state (parts_of (acting_in old) old) → (group_kit 2).Armed state.peers held → (LineEnded (group_kit 2) group_script) setup state next parts before after held left) → (EndsEvent world_game) next old new before after held left
 ends-event next old new parts before after held left is ends setup state good shows armed =
     let ended = ends setup state good (parts-show setup state old good shows) armed in
     let acting = ended.end.state.peers.acting in
     let back : parts_of acting (whole_of parts) ≡ parts = ap (λ one. parts_of one (whole_of parts)) (sym ended.fell.acting) ∙ parts-back parts (fallen-beside setup ended.end.state parts.servers ended.good.steady.good ended.fell.acting ended.fell.seats) in
-    let E : World → Type 0 = λ world. Rattle.cluster_core.specs.Broken.EventEnded setup state next ended.end.told (view_of held) (view_of left) world in (
+    let E : World → Type 0 = λ world. Rattle.cluster_core.specs.Broken.EventEnded setup state next ended.end.told held left world in (
       ended.end.told,
       subst E (sym is) (record {
         happened = ended.happened;
@@ -174,6 +187,7 @@ ends-event next old new parts before after held left is ends setup state good sh
         caused = ended.faults.caused;
         behind_it = ended.faults.behind_it;
         rose = ended.faults.rose;
+        ended = ended.faults.ended;
         good = ended.good;
         shows = record {
           fell = subst (λ (p : Cluster (Group 2)). (group_kit 2).Fell setup ended.end.state p.servers left) (sym back) ended.fell;
@@ -197,25 +211,20 @@ same-whole old = by (acting_in old)
     by B = refl
 
 -- files that were to be shown were only read
-shown-same : (held left : DiskSeen) → (ShowFails (group_kit 2) group_script) held left → (left.files ≡ held.files) × (left.tally.armed ≡ held.tally.armed)
-shown-same held left shows =
-    let is = shows.held_is in
-    let now = shows.left_is in (
-      (λ i. (now i).files) ∙ shows.read.files ∙ sym (λ i. (is i).files),
-      (λ i. (now i).tally.armed) ∙ shows.read.armed ∙ sym (λ i. (is i).tally.armed),
-    )
+shown-read : (held left : DiskSeen) → (ShowFails (group_kit 2) group_script) held left → IsRead held left
+shown-read held left shows =
+    subst (λ (disk : DiskSeen). IsRead disk left) (sym shows.held_is)
+    (subst (λ (disk : DiskSeen). IsRead shows.one disk) (sym shows.left_is) shows.read)
 
-fault-leaves : (next : Line) (old new : World) (parts : Cluster (Group 2)) (before after : List (List ℕ)) (held left : DiskSeen) → new ≡ whole_of parts → (FaultLeavesParts (group_kit 2) group_script) next (parts_of (acting_in old) old) parts before after held left → (FaultLeaves world_game) next old new before after (view_of held) (view_of left)
+fault-leaves : (next : Line) (old new : World) (parts : Cluster (Group 2)) (before after : List (List ℕ)) (held left : DiskSeen) → new ≡ whole_of parts → (FaultLeavesParts (group_kit 2) group_script) next (parts_of (acting_in old) old) parts before after held left → (FaultLeaves world_game) next old new before after held left
 fault-leaves line.Files old new parts before after held left is same =
-    let shown = shown-same held left same.2 in
-    (is ∙ ap whole_of same.0 ∙ same-whole old, same.1, shown.0, shown.1)
+    (is ∙ ap whole_of same.0 ∙ same-whole old, same.1, shown-read held left same.2)
 fault-leaves (line.Cat name) old new parts before after held left is same =
-    let shown = shown-same held left same.2 in
-    (is ∙ ap whole_of same.0 ∙ same-whole old, same.1, shown.0, shown.1)
+    (is ∙ ap whole_of same.0 ∙ same-whole old, same.1, shown-read held left same.2)
 fault-leaves next old new parts before after held left is ends = ends-event next old new parts before after held left is ends
 
-pub faults-event : (next : Line) (old new : World) (before after lines : List (List ℕ)) (held left : DiskSeen) → before ≡ [] → lines ≡ after → BreaksWhole Failed next old new before after held left → (FaultLeaves world_game) next old new [] lines (view_of held) (view_of left)
+pub faults-event : (next : Line) (old new : World) (before after lines : List (List ℕ)) (held left : DiskSeen) → before ≡ [] → lines ≡ after → BreaksWhole Failed next old new before after held left → (FaultLeaves world_game) next old new [] lines held left
 faults-event next old new before after lines held left none same whole =
     let own = fault-leaves next old new whole.0 before after held left whole.1 whole.2 in
-    subst (λ (l : List (List ℕ)). (FaultLeaves world_game) next old new [] l (view_of held) (view_of left)) (sym same)
-    (subst (λ (front : List (List ℕ)). (FaultLeaves world_game) next old new front after (view_of held) (view_of left)) none own)
+    subst (λ (l : List (List ℕ)). (FaultLeaves world_game) next old new [] l held left) (sym same)
+    (subst (λ (front : List (List ℕ)). (FaultLeaves world_game) next old new front after held left) none own)

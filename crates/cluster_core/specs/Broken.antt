@@ -1,6 +1,7 @@
 -- Words of public clauses: what stands where a fault of the disk ended an event.
 use Rattle.std.specs.Prelude.{◌≡◌, ℕ, ◌≤◌, Option, List}
 use Rattle.ais_values.specs.Causes.{Rose}
+use Rattle.disk_model.specs.Seen.{DiskSeen}
 use Rattle.plain_service.specs.Setups.{Setup}
 use Rattle.service_laws.specs.PlainOf.{plain_of}
 use Rattle.script_lines.specs.declared.line.Line.{Line}
@@ -15,9 +16,11 @@ use Rattle.cluster_clients.specs.Spelled.{AreSpelled}
 use Rattle.cluster_clients.specs.Clients.{ShowsAgents}
 use Rattle.cluster_rounds.specs.Kits.{device_by}
 pub use Rattle.cluster_rounds.specs.Broken.{LeavesBetween}
+use Rattle.cluster_rounds.specs.Seen.{counters_of}
+use Rattle.group_servers.specs.GroupCounts.{CountsEnd}
 use Rattle.group_servers.specs.GroupKit.{FellGroup}
 use Rattle.cluster_core.specs.declared.world.World.{World}
-use Rattle.cluster_core.specs.Worlds.{DiskView, parts_of, IsGood, TellsFiles}
+use Rattle.cluster_core.specs.Worlds.{parts_of, IsGood, TellsFiles}
 
 -- what the world is once no server is active: the servers fell, and all else is that of the state
 pub record ShowsEnd (setup : Setup) (state : State Peers) (armed : Option ℕ) (world : World) : Type 0 where
@@ -29,9 +32,10 @@ pub record ShowsEnd (setup : Setup) (state : State Peers) (armed : Option ℕ) (
   pub callbacks : world.callbacks ≡ state.world.places
 
 -- The disk had a fault that left no server active: the event of the line ended there, and told the lines of all that happened up to it.
--- The works that failed before that fault are those by which the count of faults rose between the event's start and it. The files are
--- between those of the history without its last entry and those of the history.
-pub record EventEnded (setup : Setup) (state : State Peers) (next : Line) (told : List Told) (held left : DiskView) (world : World) : Type 0 where
+-- The works that failed before that fault are those by which the count of faults rose between the event's start and it. The disk counted
+-- the calls, faults and stops up to it, and no others. The files are between those of the history without its last entry and those of the
+-- history.
+pub record EventEnded (setup : Setup) (state : State Peers) (next : Line) (told : List Told) (held left : DiskSeen) (world : World) : Type 0 where
   pub happened : ℕ → ℕ
   pub end : Outcome (State Peers)
   pub ends : GroupEnds (plain_of setup) (device_by setup happened) next state end
@@ -41,6 +45,7 @@ pub record EventEnded (setup : Setup) (state : State Peers) (next : Line) (told 
   pub caused : IsCaused held.faults between happened
   pub behind_it : between ≤ left.faults
   pub rose : Rose between left.faults
+  pub ended : CountsEnd next (device_by setup happened) state (counters_of held) (counters_of left)
   pub good : IsGood setup end.state
-  pub shows : ShowsEnd setup end.state left.armed world
+  pub shows : ShowsEnd setup end.state left.tally.armed world
   pub files : TellsFiles setup state held.files → LeavesBetween setup (committed end.state.world.core) held.files left.files

@@ -1,11 +1,14 @@
 -- What is asked of a world that plays the lines of scripts holds of that of two servers.
-use Rattle.std.specs.Prelude.{◌≡◌, ℕ, Option, Some, None, IfSome, List, [], ◌∷◌}
-use Rattle.std.proofs.Common.{refl}
+use Rattle.std.specs.Prelude.{◌≡◌, Option, Some, None, IfSome, List, [], ◌∷◌, option_map}
+use Rattle.std.proofs.Common.{refl, subst}
+use Rattle.disk_model.specs.Counts.{Counters}
 use Rattle.disk_model.specs.Disk.{Files}
+use Rattle.disk_model.specs.Seen.{DiskSeen}
 use Rattle.script_lines.specs.declared.line.Line.{Line}
 use Rattle.script_lines.specs.declared.line.Line.TheVariants as line
 use Rattle.script_lines.specs.declared.line.Server.TheVariants.{B}
 use Rattle.plain_service.specs.Setups.{Setup}
+use Rattle.plain_service.specs.Storing.{files_of}
 use Rattle.cluster_events.specs.Lines.{Told}
 use Rattle.cluster_events.specs.Outcomes.{Outcome}
 use Rattle.cluster_events.specs.Servers.{State}
@@ -23,9 +26,10 @@ use Rattle.group_cluster.proofs.Ended.{line-tells, line-lacks}
 use Rattle.group_cluster.proofs.Running.{start-steady, group-kept}
 use Rattle.group_cluster.proofs.Saying.{group-serves, group-spends}
 use Rattle.group_cluster.proofs.Walking as walking
+use Rattle.group_servers.specs.GroupCounts.{CountsLine}
 use Rattle.played_runs.specs.Kinds.{InTime, Refuses, Waits}
 use Rattle.played_runs.specs.Laws.{DoneFacts, EndFacts, IsGame}
-use Rattle.played_runs.specs.Views.{DiskView, files_told}
+use Rattle.played_runs.specs.Views.{files_told}
 use Rattle.played_runs.proofs.RefusalLaws.{refuses-told, refuses-cored, refuses-by-kind}
 use Rattle.played_runs.proofs.TimeLaws.{in_time-told, in_time-cored, in_time-by-kind}
 use Rattle.played_runs.proofs.WaitingLaws.{passes-told, passes-cored, waits-by-kind}
@@ -36,7 +40,7 @@ use Rattle.cluster_core.specs.Playing.{calls_by, LineDone}
 
 -- the device of a line that was done
 abbrev pub device_in :
-    {setup : Setup} {held : Option Files} {before after : ℕ} {next : Line} {state : State Peers} {outcome : Outcome (State Peers)}
+    {setup : Setup} {held : Option Files} {before after : Counters} {next : Line} {state : State Peers} {outcome : Outcome (State Peers)}
     → LineDone setup held before next state outcome after → Device
 device_in {setup = setup} done = record { calls = calls_by setup; fails = done.step.fails }
 
@@ -45,8 +49,13 @@ still-shown : (X : Type 0) (held : Option Files) (files : Files) → IfSome (fil
 still-shown X None files shown = tt
 still-shown X (Some one) files shown = shown
 
+-- the files that a history has, where a disk tells any
+still-told : (one : Files) (held : Option Files) (files : Files) → option_map (λ _. one) (files_told files held) ≡ option_map (λ _. one) held
+still-told one None files = refl
+still-told one (Some told) files = refl
+
 done-facts :
-    (setup : Setup) (held : Option Files) (before : ℕ) (next : Line) (state : State Peers) (outcome : Outcome (State Peers)) (after : ℕ)
+    (setup : Setup) (held : Option Files) (before : Counters) (next : Line) (state : State Peers) (outcome : Outcome (State Peers)) (after : Counters)
     → IsSteady (plain_of setup) IsGroup state → LineDone setup held before next state outcome after → DoneFacts world_game setup next state outcome
 done-facts setup held before next state outcome after steady done =
     let plain = plain_of setup in
@@ -66,7 +75,7 @@ done-facts setup held before next state outcome after steady done =
     }
 
 end-facts :
-    (setup : Setup) (state : State Peers) (next : Line) (told : List Told) (held left : DiskView) (world : World)
+    (setup : Setup) (state : State Peers) (next : Line) (told : List Told) (held left : DiskSeen) (world : World)
     → (ended : EventEnded setup state next told held left world) → IsSteady (plain_of setup) IsGroup state
     → EndFacts world_game setup next state ended.end
 end-facts setup state next told held left world ended steady =
@@ -80,7 +89,7 @@ end-facts setup state next told held left world ended steady =
     }
 
 settled :
-    (setup : Setup) (held : Option Files) (before : ℕ) (state : State Peers) (outcome : Outcome (State Peers)) (after : ℕ)
+    (setup : Setup) (held : Option Files) (before : Counters) (state : State Peers) (outcome : Outcome (State Peers)) (after : Counters)
     → IsSteady (plain_of setup) IsGroup state → LineDone setup held before line.Settle state outcome after
     → IsSettled (plain_of setup) outcome.state.world
 settled setup held before state outcome after steady done =
@@ -102,6 +111,9 @@ world_plays = record {
     step = done.step;
     later = done.later;
     felled = done.felled;
+    counts =
+        subst (λ (shown : Option Files). CountsLine next (device_by setup done.step.fails) shown state outcome.state before after)
+        (still-told (files_of setup state.world.core.answered) held files) done.counts;
   };
   done = done-facts;
   settles = settled;

@@ -1,9 +1,10 @@
 -- Words of public clauses: how lines are played, of the world of two servers.
 use Rattle.std.specs.Prelude.{ℕ, ℤ, List, Option, Result}
+use Rattle.disk_model.specs.Counts.{Counters}
 use Rattle.disk_model.specs.Disk.{Files}
+use Rattle.disk_model.specs.Seen.{DiskSeen}
 use Rattle.script_lines.specs.declared.line.Line.{Line}
 use Rattle.plain_service.specs.Setups.{Setup}
-use Rattle.cluster_events.specs.Servers.{State}
 use Rattle.group_cluster.specs.Seats.{Peers}
 use Rattle.cluster_core.specs.declared.world.World.{World}
 use Rattle.cluster_core.specs.Game.{world_game}
@@ -18,7 +19,6 @@ use Rattle.played_runs.specs.Promises as promises
 use Rattle.played_runs.specs.Promises.{LineSentence, Sentence}
 use Rattle.played_runs.specs.Steps as steps
 use Rattle.played_runs.specs.Telling as telling
-use Rattle.played_runs.specs.Views.{DiskView}
 use Rattle.played_runs.specs.Writing.{Reaching}
 
 -- Clauses.
@@ -26,13 +26,16 @@ use Rattle.played_runs.specs.Writing.{Reaching}
 abbrev pub Throughout : (held : Option Files) (Q : Setup → Sentence) → Type 0
 Throughout held Q = (promises.Throughout world_game) held Q
 
+abbrev pub OfAllLinesOf : (held : Option Files) (Q : Setup → LineSentence Peers) → Type 0
+OfAllLinesOf held Q = (promises.OfAllLinesOf world_game) held Q
+
 abbrev pub OfAllLines : (held : Option Files) (Q : LineSentence Peers) → Type 0
 OfAllLines held Q = (promises.OfAllLines world_game) held Q
 
-abbrev pub KeepsAtFault : (held : Option Files) (left : DiskView) (world : World) → Type 0
+abbrev pub KeepsAtFault : (held : Option Files) (left : DiskSeen) (world : World) → Type 0
 KeepsAtFault held left world = (faults.KeepsAtFault world_game) held left world
 
-abbrev pub TellsAtWant : (held : Option Files) (left : DiskView) (world : World) → Type 0
+abbrev pub TellsAtWant : (held : Option Files) (left : DiskSeen) (world : World) → Type 0
 TellsAtWant held left world = (telling.TellsAtWant world_game) held left world
 
 abbrev pub Stage : Type 0 → Type 0 → Type 0
@@ -53,21 +56,18 @@ DiskFails lines scene text = ends.DiskFails world_game lines scene text
 abbrev pub Opens : List Line → Option Files → Type 0
 Opens script held = ends.Opens world_game script held
 
-abbrev pub PlaysFront : Option Files → ℕ → (script done rest : List Line) → List ℕ → Type 0
+abbrev pub PlaysFront : Option Files → Counters → (script done rest : List Line) → List ℕ → Type 0
 PlaysFront held first script done rest text = (playing.PlaysFront world_game) held first script done rest text
-
-abbrev pub StandsAt : Setup → State Peers → Files → ℕ → Option Files → DiskView → World → Type 0
-StandsAt setup state files faults held left world = (playing.StandsAt world_game) setup state files faults held left world
 
 -- Bodies.
 
-abbrev pub Goes : Setup → ℕ → Option Files → ℕ → List Line → List ℕ → Type 0
+abbrev pub Goes : Setup → ℕ → Option Files → Counters → List Line → List ℕ → Type 0
 Goes setup places held first lines text = (playing.Goes world_game) setup places held first lines text
 
-abbrev pub Begun : Setup → ℕ → Option Files → DiskView → World → Type 0
+abbrev pub Begun : Setup → ℕ → Option Files → DiskSeen → World → Type 0
 Begun setup places held left world = (games.Begun world_game) setup places held left world
 
-abbrev pub HasBegun : DiskView → World → Type 0
+abbrev pub HasBegun : DiskSeen → World → Type 0
 HasBegun left world = (steps.HasBegun world_game) left world
 
 abbrev pub CanFollow : ℤ → List Line → Type 0
@@ -79,24 +79,21 @@ CanPlay opening events = (steps.CanPlay world_game) opening events
 abbrev pub IsPlayable : List Line → Type 0
 IsPlayable lines = (steps.IsPlayable world_game) lines
 
-abbrev pub Going : Setup → ℕ → Option Files → ℕ → DiskView → World → List Line → List ℕ → Type 0
+abbrev pub Going : Setup → ℕ → Option Files → Counters → DiskSeen → World → List Line → List ℕ → Type 0
 Going setup places held first left world lines text = (steps.Going world_game) setup places held first left world lines text
 
-abbrev pub Plays : Setup → ℕ → Option Files → ℕ → DiskView → World → List Line → List ℕ → Type 0
-Plays setup places held first left world lines text = (steps.Plays world_game) setup places held first left world lines text
-
-abbrev pub LacksBehind : Setup → ℕ → Option Files → ℕ → Option Files → World → List Line → List ℕ → Type 0
+abbrev pub LacksBehind : Setup → ℕ → Option Files → Counters → DiskSeen → World → List Line → List ℕ → Type 0
 LacksBehind setup places held first left world events front = (steps.LacksBehind world_game) setup places held first left world events front
 
-abbrev pub EventsEnd : Setup → ℕ → Option Files → ℕ → DiskView → (Option Files → ℕ → Type 0) → World → List Line → Reaching
+abbrev pub EventsEnd : Setup → ℕ → Option Files → Counters → DiskSeen → (Option Files → Counters → Type 0) → World → List Line → Reaching
 EventsEnd setup places held first left Since world events reached text =
     (steps.EventsEnd world_game) setup places held first left Since world events reached text
 
 abbrev pub CanPass : List Line → Type 0
 CanPass lines = (passing.CanPass world_game) lines
 
-abbrev pub HasGone : DiskView → World → Type 0
+abbrev pub HasGone : DiskSeen → World → Type 0
 HasGone left world = (passing.HasGone world_game) left world
 
-abbrev pub Passes : (Since : Option Files → ℕ → Type 0) → List Line → (mid left : DiskView) (old new : World) → Result Unit Halt → Type 0
+abbrev pub Passes : (Since : Option Files → Counters → Type 0) → List Line → (mid left : DiskSeen) (old new : World) → Result Unit Halt → Type 0
 Passes Since lines mid left old new result = (passing.Passes world_game) Since lines mid left old new result

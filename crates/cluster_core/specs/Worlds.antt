@@ -14,7 +14,6 @@ use Rattle.mirror.specs.Pairing.{alone}
 use Rattle.cluster_rounds.specs.declared.cluster.Cluster.{Cluster}
 use Rattle.cluster_rounds.specs.Worlds as cluster
 pub use Rattle.cluster_rounds.specs.Worlds.{TellsFiles, LeavesFiles}
-pub use Rattle.played_runs.specs.Views.{DiskView, view_of}
 use Rattle.group_servers.specs.declared.group.Seat.{Seat}
 use Rattle.group_servers.specs.declared.group.Group.{Group}
 use Rattle.group_servers.specs.GroupKit.{group_kit}

@@ -5,11 +5,11 @@ ghost use Rattle.plain_service.specs.Setups.{Setup};
 ghost use Rattle.script_language.specs.Lines.{Spells};
 ghost use Rattle.service_core.specs.Beginning.{BeginsAs, CanBeginAs};
 ghost use Rattle.cluster_core.specs.Game.{world_game};
-ghost use Rattle.cluster_core.specs.Worlds.{empty_world, view_of};
+ghost use Rattle.cluster_core.specs.Worlds.{empty_world};
 ghost use Rattle.cluster_clients.specs.Answers.{RisesAtFault};
 ghost use Rattle.cluster_core.specs.Beginning.{Begins};
 ghost use Rattle.played_runs.specs.Views.{HoldsNone};
-ghost use Rattle.played_runs.specs.Games.{Begun, LeavesBroken};
+ghost use Rattle.played_runs.specs.Games.{Begun, LeavesOpening};
 ghost use Rattle.group_servers.specs.GroupNodes.{standby_by};
 ghost use Rattle.cluster_core.specs.Starting.{wells_of, world_of, Starts, StartsBoth, StartsWorld, broken_by};
 
@@ -189,8 +189,8 @@ impl World {
     ///
     /// On an error the world stays empty. `Memory` comes only for want of memory; some device calls of the start may be done.
     /// `DiskFault` comes exactly where the disk's count of faults rose: a device call failed, those before it were done, and
-    /// nothing is printed. On `Ok` and on `Memory` the count stands. No thread starts: the queues of callbacks are made with the
-    /// clients' first calls.
+    /// nothing is printed. On `Ok` and on `Memory` the count stands. The disk does not stop, and no calls but those of the start are
+    /// made. No thread starts: the queues of callbacks are made with the clients' first calls.
     pub fn begin<R, D: SharedDisk>(
         &mut self,
         _rt: &R,
@@ -204,10 +204,10 @@ impl World {
         requires unarmed { (D.seen disk.old).tally.armed ≡ None }
         ensures ok { (setup : Setup) (places : ℕ) → Begins line.now setup places →
             HoldsNone (D.seen disk.old).files → OnOk result (Begun world_game setup places
-            (D.seen disk.old).files (view_of (D.seen disk.new)) self.new) }
+            (D.seen disk.old).files (D.seen disk.new) self.new) }
         ensures same { OnErr result (self.new ≡ self.old) }
-        ensures broken { (setup : Setup) (places : ℕ) → Begins line.now setup places →
-            LeavesBroken setup (D.seen disk.old).files (D.seen disk.new).files result }
+        ensures leaves { (setup : Setup) (places : ℕ) → Begins line.now setup places →
+            LeavesOpening setup (D.seen disk.old) (D.seen disk.new) result }
         ensures cause { RisesAtFault (D.seen disk.old).faults (D.seen disk.new).faults result }
     {
         let (world, deeds) = match started(alloc, line) {

@@ -18,7 +18,6 @@ use std::thread::Threads;
 
 impl World {
     ghost use Rattle.cluster_core.specs.Game.{world_game};
-    ghost use Rattle.cluster_core.specs.Worlds.{view_of};
     ghost use Rattle.played_runs.specs.Games.{HasState};
     ghost use Rattle.cluster_core.specs.Playing.{IsEventLine};
     ghost use Rattle.played_runs.specs.Games.{DoesEvent, EventBroken, RisesInEvent};
@@ -33,13 +32,17 @@ impl World {
     /// is `work`, `settle` or a `crash` of the active server: its lines are those of all that was done before, and of the servers that
     /// went down.
     ///
+    /// The disk counts the calls that the line asks for and no others: of `work` and `settle` those of the works that were done, of those
+    /// that a server fell in and of the takeovers behind it; of a `crash` those of the takeovers.
+    ///
     /// `files` asks the disk once for the names and once for the length of each, `cat` once for the length and once for the bytes where
     /// there are any; another line that is not the servers' own, and not `settle`, asks it nothing.
     ///
     /// `Memory` comes where memory ran out: some of the line was done, without its lines. The history is legal; each client's calls in it
     /// are the first of those that it had sent before, and what came to it is of the time in force, which stays, or
     /// waited for the partner before. Each client
-    /// was fed the beginning of its items, each reply that it took is the history's, and the files are between. The same is answered
+    /// was fed the beginning of its items, each reply that it took is the history's, and the files are between. The counts of faults
+    /// and stops are those of works that were done, or also of the one behind which a takeover lacked memory. The same is answered
     /// where the history has 4,000,000,000 entries, where a client's agent has numbered 4,294,967,294 calls, and where a string of the
     /// net has more than 4,294,967,294 bytes.
     pub fn event<R: Threads + Wait + Sync, D: SharedDisk, G: Gate>(
@@ -54,10 +57,9 @@ impl World {
         requires line { IsEventLine self.old.now line.now }
         requires state { HasState world_game self.old (D.seen disk.old).tally.armed }
         ensures ok { IfOk result (λ lines. DoesEvent world_game line.now lines self.old self.new
-            (view_of (D.seen disk.old))
-            (view_of (D.seen disk.new))) }
+            (D.seen disk.old) (D.seen disk.new)) }
         ensures broken { IfErr result (λ answer. EventBroken world_game answer line.now self.old
-            self.new (view_of (D.seen disk.old)) (view_of (D.seen disk.new))) }
+            self.new (D.seen disk.old) (D.seen disk.new)) }
         ensures cause { RisesInEvent (D.seen disk.old).faults (D.seen disk.new).faults result }
         ensures looks { LooksBy line.now (D.seen disk.old).files (is_ok result)
             (D.seen disk.old).tally (D.seen disk.new).tally }
