@@ -1,5 +1,5 @@
 -- Words of public clauses: how a run ends, which is its status with what was read, what is printed, and what it leaves.
-use Rattle.std.specs.Prelude.{◌≡◌, ℕ, ◌+◌, ◌≤◌, List, [], ◌++◌, length, codes}
+use Rattle.std.specs.Prelude.{◌≡◌, ℕ, ◌+◌, ◌≤◌, true, false, List, [], ◌++◌, length, codes}
 use Rattle.std.specs.Prelude.{Option, Some, None, ◌⊎◌}
 use Rattle.std.specs.Io.KnownBytes.{Appends}
 use Rattle.std.specs.Fmt.{decimal}
@@ -27,7 +27,7 @@ use Rattle.cluster_core.specs.Runs.{DiskFails, PlayEnds, PlayLacks, PlayedTo}
 use Rattle.commands.specs.declared.command.Command.{Command}
 use Rattle.commands.specs.declared.command.Command.TheVariants.{Run, Check, Expr, Gen, Load, Scan}
 use Rattle.commands.specs.Commands.{command_of, text_of as word_text}
-use Rattle.load_runs.specs.Loading.{LoadFails, TellsLoad}
+use Rattle.load_runs.specs.Loading.{CountedBehind, LoadFails, TellsLoad, counting_faults}
 use Rattle.aisrun.specs.Scanning.{CanScan, CannotScan, ScansAll, ScansFront, TakesText}
 use Rattle.aisrun.specs.Usage.{usage_line}
 
@@ -113,8 +113,8 @@ pub data Succeeds {S K D : Type 0} (run : Around S K D) (text : List ℕ) : Type
       (count seed : ℕ) → command_of run.words ≡ Some (Gen count seed) → LeavesAll run.stage → IsUntouched run.source → text ≡ load_text count seed
       → Succeeds run text
   Loaded :
-      (lines : List Line) → HasLoad run lines → (done : List Line) (unwritten : List ℕ) (played : PlayedTo run.stage lines done [] unwritten)
-      → TellsLoad played.front.goes.state (after run.stage.disk) text → Succeeds run text
+      (lines : List Line) → HasLoad run lines → (done : List Line) (unwritten : List ℕ) (behind : CountedBehind true run.stage lines done unwritten)
+      → HasStood (counting_faults behind) → TellsLoad behind.front.goes.state (after run.stage.disk) text → Succeeds run text
   Scanned :
       (can : CanScan run.words) → LeavesAll run.stage → (bytes : List ℕ) → ReadsWhole run.source bytes → ScansAll can bytes text
       → Succeeds run text
@@ -199,14 +199,17 @@ pub data RunLacks {S K D : Type 0} (run : Around S K D) (text : List ℕ) : Type
   Unread : text ≡ [] → LeavesAll run.stage → RunLacks run text
   Unplayed : (lines : List Line) → HasScript run lines → PlayLacks lines run.stage text → RunLacks run text
 
--- memory ran out in a large run, of whose lines nothing is written: before it began; as it was played; or behind some of its lines, as the
--- next one was made, or the line that is printed behind them all
+-- memory ran out in a large run, of whose lines nothing is written: before it began; as it was played; behind some of its lines, as the
+-- next one was made; or behind them all, as files were counted or the line that is printed was made
 pub data LoadLacks {S K D : Type 0} (run : Around S K D) (text : List ℕ) : Type 0 where
   Unbegun : text ≡ [] → LeavesAll run.stage → IsUntouched run.source → LoadLacks run text
   Unended : text ≡ [] → (lines : List Line) → HasLoad run lines → (unwritten : List ℕ) → PlayLacks lines run.stage unwritten → LoadLacks run text
   Unmade :
       text ≡ [] → (lines : List Line) → HasLoad run lines → (done rest : List Line) (unwritten : List ℕ)
       → PlayedTo run.stage lines done rest unwritten → LoadLacks run text
+  Uncounted :
+      text ≡ [] → (lines : List Line) → HasLoad run lines → (done : List Line) (unwritten : List ℕ)
+      (behind : CountedBehind false run.stage lines done unwritten) → HasStood (counting_faults behind) → LoadLacks run text
 
 -- memory ran out as records were told: before it was known whether the text serves, where the source is as it was; as the source was
 -- read for a text that serves; or behind the first records

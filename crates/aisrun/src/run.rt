@@ -3,22 +3,23 @@ ghost use Rattle.std.specs.Prelude.{◌≡◌, ◌≤◌, ◌++◌, None, Some, 
 ghost use Rattle.std.specs.Fmt.{decimal};
 ghost use Rattle.script_lines.specs.Refusals.{why_word};
 ghost use Rattle.played_runs.specs.Counts.{HasRisen, NoneRises, RisesBy};
-ghost use Rattle.played_runs.specs.Edges.{disk_edge, edge, fault_count, stage};
+ghost use Rattle.played_runs.specs.Edges.{edge, fault_count, stage};
 ghost use Rattle.played_runs.specs.Promises.{CallsBack, CommitsInTime, KeepsFiles, KeepsOneHistory, KeepsRecords};
 ghost use Rattle.played_runs.specs.Promises.{PrintsPosts, ReadsRightly, RepliesRightly, SettlesAll, StandsOnce};
 ghost use Rattle.played_runs.specs.Refusing.{DeclinesRightly};
 ghost use Rattle.played_runs.specs.Telling.{TellsOnce};
 ghost use Rattle.played_runs.specs.Writing.{Ended, IsNone, IsText, Written, unasked};
 ghost use Rattle.aisrun.specs.Edges.{around};
+ghost use Rattle.world_runs.specs.Counting.{CallsCounted};
 ghost use Rattle.world_runs.specs.Falling.{FallsByCause, FaultsFell};
-ghost use Rattle.cluster_core.specs.Runs.{KeepsAtFault, OfAllLines, Throughout, TellsAtWant};
+ghost use Rattle.cluster_core.specs.Runs.{KeepsAtFault, OfAllLines, OfAllLinesOf, Throughout, TellsAtWant};
 ghost use Rattle.commands.specs.Commands.{command_of, word_bytes};
 ghost use Rattle.aisrun.specs.Completing.{CanCheck, CanGenerate, CanLoad, CanParse, CanRun, HoldsRecords, IsDoneOrMemory};
 ghost use Rattle.played_runs.specs.declared.ending.Status8.{Status8};
 ghost use Rattle.aisrun.specs.Endings.{Ends, EndsBy};
 ghost use Rattle.aisrun.specs.Scripting.{BytesEnd, BytesLack};
 ghost use Rattle.aisrun.specs.RunSteps.{InputEnds, InputLacks, WordsLack};
-ghost use Rattle.cluster_core.specs.Worlds.{empty_world, view_of};
+ghost use Rattle.cluster_core.specs.Worlds.{empty_world};
 
 use crate::check::run_check;
 use crate::ending::{bad_line, usage};
@@ -65,7 +66,7 @@ fn run_bytes<R: Threads + Wait + Sync, K: Sink, D: SharedDisk, G: Gate>(
     requires empty { world.old ≡ empty_world }
     requires unarmed { (D.seen disk.old).tally.armed ≡ None }
     ensures { let scene = stage (edge K.written K.faults out.old out.new)
-        (disk_edge D.seen disk.old disk.new) (D.seen disk.new).tally.armed world.old world.new
+        D.seen disk.old disk.new world.old world.new
         in Ended unasked (fault_count scene.disk) (BytesEnd bytes.now scene)
         (BytesLack bytes.now scene) scene.sink result }
 {
@@ -90,7 +91,7 @@ fn run_script<R: Threads + Wait + Sync, S: Source, K: Sink, D: SharedDisk, G: Ga
     requires unarmed { (D.seen disk.old).tally.armed ≡ None }
     ensures { let source = edge S.left S.faults source.old source.new in
         let scene = stage (edge K.written K.faults out.old out.new)
-        (disk_edge D.seen disk.old disk.new) (D.seen disk.new).tally.armed world.old world.new
+        D.seen disk.old disk.new world.old world.new
         in Ended (fault_count source) (fault_count scene.disk) (InputEnds source scene)
         (InputLacks source scene) scene.sink result }
 {
@@ -117,7 +118,7 @@ fn run_command<R: Threads + Wait + Sync, S: Source, K: Sink, D: SharedDisk, G: G
     requires unarmed { (D.seen disk.old).tally.armed ≡ None }
     ensures { let run = around (word_bytes words.now)
         (edge S.left S.faults source.old source.new) (edge K.written K.faults out.old out.new)
-        (disk_edge D.seen disk.old disk.new) (D.seen disk.new).tally.armed world.old world.new
+        D.seen disk.old disk.new world.old world.new
         in Ended (fault_count run.source) (fault_count run.stage.disk) (Ends run)
         (WordsLack run) run.stage.sink result }
 {
@@ -148,7 +149,7 @@ fn run_words<R: Threads + Wait + Sync, S: Source, K: Sink, D: SharedDisk, G: Gat
     requires unarmed { (D.seen disk.old).tally.armed ≡ None }
     ensures { let run = around (word_bytes words.now)
         (edge S.left S.faults source.old source.new) (edge K.written K.faults out.old out.new)
-        (disk_edge D.seen disk.old disk.new) (D.seen disk.new).tally.armed world.old world.new
+        D.seen disk.old disk.new world.old world.new
         in Ended (fault_count run.source) (fault_count run.stage.disk) (Ends run)
         (WordsLack run) run.stage.sink result }
 {
@@ -191,7 +192,9 @@ fn run_words<R: Threads + Wait + Sync, S: Source, K: Sink, D: SharedDisk, G: Gat
 /// lost, repeated, reordered, crashed, stopped, restarted or failed over. A line tells a refusal by a client's agent exactly
 /// where the calls that the client had sent, and those of them whose reply no line told, make one due. Each entry is of the
 /// time that was in force as it was accepted. A server goes down only by `crash`, where the count that was armed came to
-/// its end, or where the disk's count of faults rose. Of every subscription, the callbacks that its client got tell of the
+/// its end, or where the disk's count of faults rose. The disk counts the calls, faults and stops of the entries that a line
+/// works, each worked once, of the takeovers behind those that fell and behind a crash, and the calls by which files are shown,
+/// and no others. Of every subscription, the callbacks that its client got tell of the
 /// first sends answered ok for which it asked while it lasted, each once and in order, and tell as lost those that were
 /// dropped; so no notification comes twice to it, and those of one sender come in its order. No two calls have a record at
 /// one place. Where a fault of the disk left no active server, the same holds of history, replies, callbacks and posts up to
@@ -214,7 +217,7 @@ pub fn run<R: Threads + Wait + Sync, S: Source, K: Sink, D: SharedDisk, G: Gate>
     // How the run ends, by its status.
     ensures ends { EndsBy result (around (word_bytes words.now)
         (edge S.left S.faults source.old source.new) (edge K.written K.faults out.old out.new)
-        (disk_edge D.seen disk.old disk.new) (D.seen disk.new).tally.armed world.old world.new) }
+        D.seen disk.old disk.new world.old world.new) }
 
     // Which counts of faults rose.
     ensures faults { RisesBy result (S.faults source.old, S.faults source.new)
@@ -227,6 +230,7 @@ pub fn run<R: Threads + Wait + Sync, S: Source, K: Sink, D: SharedDisk, G: Gate>
     ensures in_time { OfAllLines (D.seen disk.old).files CommitsInTime }
     ensures falls { OfAllLines (D.seen disk.old).files FallsByCause }
     ensures fells { OfAllLines (D.seen disk.old).files FaultsFell }
+    ensures calls { OfAllLinesOf (D.seen disk.old).files (CallsCounted (D.seen disk.old).files) }
     ensures readers { Throughout (D.seen disk.old).files ReadsRightly }
     ensures callbacks { Throughout (D.seen disk.old).files CallsBack }
     ensures tells_once { Throughout (D.seen disk.old).files TellsOnce }
@@ -238,11 +242,11 @@ pub fn run<R: Threads + Wait + Sync, S: Source, K: Sink, D: SharedDisk, G: Gate>
 
     // What holds where a fault of the disk ended the run in an event.
     ensures fault_keeps { KeepsAtFault (D.seen disk.old).files
-        (view_of (D.seen disk.new)) world.new }
+        (D.seen disk.new) world.new }
 
     // What holds where memory ran out in an event.
     ensures want_tells { TellsAtWant (D.seen disk.old).files
-        (view_of (D.seen disk.new)) world.new }
+        (D.seen disk.new) world.new }
 
     // Where nothing fails, a script is played, a script is checked, an expression is taken apart, a script is made, a large run
     // is played, and records are told: only memory may be missing.

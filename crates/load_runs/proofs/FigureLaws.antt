@@ -10,7 +10,9 @@ use Rattle.std.proofs.lemmas.Bool.{eq-eqb, ne_eqb}
 use Rattle.std.proofs.lemmas.List.{length-append, take_more}
 use Rattle.std.proofs.lemmas.List.Elements.{filter_map-append}
 use Rattle.std.proofs.lemmas.List.Sums.{sum_by-append, sum_by-cons, sum_by_more}
+use Rattle.disk_model.specs.Counts.{read_more}
 use Rattle.disk_model.specs.Disk.{Files, length_of}
+use Rattle.disk_model.specs.declared.tally.Tally.{Tally}
 use Rattle.plain_service.specs.Setups.{Setup}
 use Rattle.script_lines.specs.declared.line.Server.{Server}
 use Rattle.script_lines.specs.declared.line.Server.TheVariants.{A, B}
@@ -26,6 +28,7 @@ use Rattle.cluster_clients.specs.Clients.{ShowsAgents, seen_all}
 use Rattle.cluster_clients.specs.declared.fetching.Fetched.{Fetched}
 use Rattle.cluster_clients.specs.declared.fetching.Fetched.TheVariants.{Whole, Bad}
 use Rattle.cluster_clients.specs.Files.{sizes_of}
+use Rattle.cluster_clients.specs.Looks.{ListCalls, Looks}
 use Rattle.cluster_clients.specs.Spelled.{AreSpelled, IsFetched}
 use Rattle.cluster_clients.proofs.PostingSteps.{spelled-length}
 use Rattle.event_text.specs.Texts.{role_text}
@@ -214,3 +217,38 @@ line-told setup state world files bytes requests sent entries replies net a b sh
     let taken : replies ≡ replies_taken state.world = replies-is ∙ ap₂ (λ (n m : ℕ). n - m) asked again in
     (λ i. line_of (past i) (taken i) (count i) files bytes (role-a i) (role-b i))
     ∙ line-by (length (committed state.world.core)) (replies_taken state.world) (length state.world.net) files bytes (role_of A state.peers) (role_of B state.peers)
+
+-- How often the disk is asked as its files are counted: for their names, and for the length of each.
+
+-- the names, where the disk tells its files
+abbrev pub names_in : Option Files → List (List ℕ)
+names_in None = []
+names_in (Some told) = keys told
+
+pub names-told_in : (held : Option Files) → IfSome held (λ told. names_in held ≡ keys told)
+names-told_in None = tt
+names-told_in (Some told) = refl
+
+all-due : (held : Option Files) (names : List (List ℕ)) → IfSome held (λ told. names ≡ keys told) → ListCalls held (suc (length names))
+all-due None names listed = omega arith
+all-due (Some told) names listed = ap (λ (all : List (List ℕ)). suc (length all)) listed
+
+pub looked-in : (held : Option Files) (names : List (List ℕ)) (made : ℕ) (done : Bool) (old new : Tally) → IfSome held (λ told. names ≡ keys told) → made ≤ suc (length names) → (done ≡ true → made ≡ suc (length names)) → new ≡ read_more made old → Looks (ListCalls held) done old new
+looked-in held names made done old new listed within whole counted =
+    record { due = suc (length names); is_due = all-due held names listed; made = made; within = within; whole = whole; counted = counted }
+
+pub asked-next : (place : ℕ) (old mid new : Tally) → mid ≡ read_more (suc place) old → new ≡ read_more 1 mid → new ≡ read_more (suc (place + 1)) old
+asked-next place old mid new before last =
+    let same : suc (suc place) ≡ suc (place + 1) = omega arith in
+    subst (λ (calls : ℕ). new ≡ read_more calls old) same (last ∙ ap (read_more 1) before)
+
+-- some calls were made where all were
+pub looks-some : (held : Option Files) (old new : Tally) → Looks (ListCalls held) true old new → Looks (ListCalls held) false old new
+looks-some held old new looks = record {
+  due = looks.due;
+  is_due = looks.is_due;
+  made = looks.made;
+  within = looks.within;
+  whole = λ done. absurd (cc);
+  counted = looks.counted;
+}

@@ -4,6 +4,7 @@ use Rattle.std.specs.Prelude.{◌≡◌, ℕ, ◌-◌, Bool, true, false, List, 
 use Rattle.std.specs.FinMap as map
 use Rattle.std.specs.Fmt.{decimal}
 use Rattle.disk_model.specs.Disk.{Files}
+use Rattle.disk_model.specs.Seen.{DiskSeen}
 use Rattle.script_grammar.specs.Writing.{joined}
 use Rattle.script_lines.specs.declared.line.Line.{Line}
 use Rattle.script_lines.specs.declared.line.Server.TheVariants.{A, B}
@@ -15,12 +16,16 @@ use Rattle.cluster_facts.specs.World.{World}
 use Rattle.cluster_events.specs.declared.lines.ServerRole.{ServerRole}
 use Rattle.cluster_events.specs.Servers.{State}
 use Rattle.cluster_clients.specs.Files.{sizes_of}
+use Rattle.cluster_clients.specs.Looks.{ListCalls, Looks}
 use Rattle.group_cluster.specs.Seats.{Peers, role_of}
 use Rattle.event_text.specs.Texts.{line_end, role_text}
 use Rattle.played_runs.specs.Counts.{HasRisen}
-use Rattle.played_runs.specs.Edges.{after, before, first_count}
+use Rattle.played_runs.specs.Edges.{before, disk_left, first_count}
 use Rattle.played_runs.specs.Ends.{fault_line}
-use Rattle.cluster_core.specs.Runs.{DiskFails, PlaysFront, Stage, StandsAt}
+use Rattle.played_runs.specs.Playing.{seen_behind}
+use Rattle.cluster_core.specs.Game.{world_game}
+use Rattle.cluster_core.specs.Runs.{DiskFails, PlaysFront, Stage}
+use Rattle.cluster_core.specs.Worlds.{Shows}
 
 -- how many of these messages are requests
 abbrev pub is_request : Message → Bool
@@ -72,12 +77,28 @@ pub record TellsLoad (state : State Peers) (held : Option Files) (text : List �
   pub counted : IfSome held (λ told. (files ≡ length (all_files told)) × (bytes ≡ bytes_in (all_files told)))
   pub printed : text ≡ state_line state files bytes
 
--- the disk failed in a large run, of whose lines nothing is written: as they were played; or behind them, as the files were counted, where
--- all stands where they led, but for the disk's count of faults
+-- the files of a disk were counted, for which it was asked for its names and for the length of each file; or some of these calls were made,
+-- where it was not done. No others were made
+pub record FilesCounted (done : Bool) (held left : DiskSeen) : Type 0 where
+  pub files : left.files ≡ held.files
+  pub looks : Looks (ListCalls held.files) done held.tally left.tally
+  pub stops : left.stops ≡ held.stops
+
+-- all lines of a large run were done, and world and disk stand where they led, but that the files of the disk were counted since
+pub record CountedBehind {K D : Type 0} (done : Bool) (scene : Stage K D) (script events : List Line) (unwritten : List ℕ) : Type 0 where
+  pub front : PlaysFront (before scene.disk) (first_count scene) script events [] unwritten
+  pub shows : Shows front.setup front.goes.state scene.world_after
+  pub counted : FilesCounted done ((seen_behind world_game) front.goes) (disk_left scene)
+
+-- how often the disk had failed behind these lines, and behind the counting
+abbrev pub counting_faults :
+    {K D : Type 0} {done : Bool} {scene : Stage K D} {script events : List Line} {unwritten : List ℕ}
+    → CountedBehind done scene script events unwritten → ℕ × ℕ
+counting_faults {scene = scene} behind = (behind.front.goes.counts.faults, (disk_left scene).faults)
+
+-- the disk failed in a large run, of whose lines nothing is written: as they were played; or behind them, as the files were counted
 pub data LoadFails {K D : Type 0} (script : List Line) (scene : Stage K D) (text : List ℕ) : Type 0 where
   InPlay : (unwritten : List ℕ) → DiskFails script scene unwritten → text ≡ fault_line → LoadFails script scene text
   AtCount :
-      (done : List Line) (unwritten : List ℕ) (front : PlaysFront (before scene.disk) (first_count scene) script done [] unwritten)
-      → StandsAt front.setup front.goes.state front.goes.files front.goes.faults (before scene.disk)
-      (record { files = after scene.disk; armed = scene.armed; faults = front.goes.faults }) scene.world_after
-      → HasRisen (front.goes.faults, scene.disk.faults scene.disk.new) → text ≡ fault_line → LoadFails script scene text
+      (done : List Line) (unwritten : List ℕ) (behind : CountedBehind false scene script done unwritten)
+      → HasRisen (counting_faults behind) → text ≡ fault_line → LoadFails script scene text

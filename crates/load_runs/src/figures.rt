@@ -2,7 +2,9 @@
 ghost use Rattle.std.specs.Prelude.{◌≡◌, ◌+◌, ◌++◌, ℕ, List, false, string_bytes, IfOk, IfSome};
 ghost use Rattle.std.specs.FinMap as map;
 ghost use Rattle.std.specs.Option.{option_map_or};
+ghost use Rattle.std.specs.Result.{is_ok};
 ghost use Rattle.ais_values.specs.Causes.{RoseExactlyOn};
+ghost use Rattle.disk_model.specs.Counts.{read_more};
 ghost use Rattle.plain_service.specs.Setups.{Setup};
 ghost use Rattle.cluster_facts.specs.Agents.{Agent as AgentOf, resent};
 ghost use Rattle.cluster_facts.specs.Messages.{Posting, messages_in};
@@ -10,6 +12,7 @@ ghost use Rattle.cluster_facts.specs.World.{World as WorldOf};
 ghost use Rattle.cluster_events.specs.Servers.{State};
 ghost use Rattle.client_agent.specs.Seen.{seen_of};
 ghost use Rattle.cluster_clients.specs.Clients.{ShowsAgents};
+ghost use Rattle.cluster_clients.specs.Looks.{ListCalls, Looks};
 ghost use Rattle.cluster_clients.specs.Spelled.{AreSpelled};
 ghost use Rattle.group_cluster.specs.Seats.{Peers};
 ghost use Rattle.lead_server.specs.Roles.{role_shown};
@@ -160,7 +163,8 @@ fn with_file<D: SharedDisk>(disk: &mut D, name: &[u8], held: Held) -> Result<Hel
     ensures counted { IfOk result (λ more. IfSome (D.seen disk.old).files (λ told.
         CountsFile told name.now held more)) }
     ensures same { (D.seen disk.new).files ≡ (D.seen disk.old).files }
-    ensures armed { (D.seen disk.new).tally.armed ≡ (D.seen disk.old).tally.armed }
+    ensures stops { (D.seen disk.new).stops ≡ (D.seen disk.old).stops }
+    ensures asked { (D.seen disk.new).tally ≡ read_more 1 (D.seen disk.old).tally }
     ensures cause { RoseExactlyOn (D.seen disk.old).faults (D.seen disk.new).faults result
         Halt.DiskFault }
 {
@@ -179,7 +183,9 @@ fn count_files<D: SharedDisk>(alloc: Global, disk: &mut D) -> Result<Held, Halt>
     ensures counted { IfOk result (λ held. IfSome (D.seen disk.old).files (λ told.
         CountsFront told (map.keys told) held)) }
     ensures same { (D.seen disk.new).files ≡ (D.seen disk.old).files }
-    ensures armed { (D.seen disk.new).tally.armed ≡ (D.seen disk.old).tally.armed }
+    ensures stops { (D.seen disk.new).stops ≡ (D.seen disk.old).stops }
+    ensures looks { Looks (ListCalls (D.seen disk.old).files) (is_ok result) (D.seen disk.old).tally
+        (D.seen disk.new).tally }
     ensures cause { RoseExactlyOn (D.seen disk.old).faults (D.seen disk.new).faults result
         Halt.DiskFault }
 {
@@ -257,12 +263,15 @@ fn load_line(alloc: Global, world: &World, held: &Held) -> Result<String, AllocE
 
 /// Counts the files of the disk, and makes the line of these and of the world.
 ///
-/// `DiskFault` comes exactly where the disk's count of faults rose; the disk is only read.
+/// `DiskFault` comes exactly where the disk's count of faults rose; the disk is asked for its names and for the length of each file,
+/// once, and for nothing else.
 pub fn tell_load<D: SharedDisk>(alloc: Global, disk: &mut D, world: &World) -> Result<String, Halt>
     ensures told { IfOk result (λ line. (setup : Setup) (state : State Peers) → Shows setup state
         world.entry.now → TellsLoad state (D.seen disk.old).files (string_bytes line)) }
     ensures same { (D.seen disk.new).files ≡ (D.seen disk.old).files }
-    ensures armed { (D.seen disk.new).tally.armed ≡ (D.seen disk.old).tally.armed }
+    ensures stops { (D.seen disk.new).stops ≡ (D.seen disk.old).stops }
+    ensures looks { Looks (ListCalls (D.seen disk.old).files) (is_ok result) (D.seen disk.old).tally
+        (D.seen disk.new).tally }
     ensures cause { RoseExactlyOn (D.seen disk.old).faults (D.seen disk.new).faults result
         Halt.DiskFault }
 {

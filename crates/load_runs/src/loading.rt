@@ -7,15 +7,15 @@ ghost use Rattle.script_language.specs.Scripts.{IsScriptOf};
 ghost use Rattle.load_script.specs.Texts.{load_text};
 ghost use Rattle.load_lines.specs.Lines.{closing_lines, first_lines, load_lines, opening_line, turn_lines, turns_lines};
 ghost use Rattle.group_cluster.specs.Seats.{Peers};
-ghost use Rattle.played_runs.specs.Edges.{disk_edge, edge, stage};
+ghost use Rattle.played_runs.specs.Edges.{edge, stage};
 ghost use Rattle.played_runs.specs.Ends.{StoodUpTo};
 ghost use Rattle.played_runs.specs.Handed.{BeginsBy, CanDo, CanOpen, DoesLines, Opened};
 ghost use Rattle.played_runs.specs.Passing.{RisesPassing};
-ghost use Rattle.played_runs.specs.Views.{HoldsNone};
+ghost use Rattle.played_runs.specs.Views.{HoldsNone, counters_of, names_told};
 ghost use Rattle.played_runs.specs.Writing.{Ended, Written, unasked};
 ghost use Rattle.cluster_core.specs.Game.{world_game};
 ghost use Rattle.cluster_core.specs.Runs.{Begun, HasBegun, HasGone, Passes};
-ghost use Rattle.cluster_core.specs.Worlds.{empty_world, Shows, view_of};
+ghost use Rattle.cluster_core.specs.Worlds.{empty_world, Shows};
 ghost use Rattle.load_runs.specs.LoadSteps.{LoadedOn, RunEnds, RunWants, TellEnds, TellLacks};
 
 use crate::figures::tell_load;
@@ -47,12 +47,11 @@ fn pass_turn<D: SharedDisk, E>(
 ) -> Result<(), Halt>
 where
     E: Fn(&Line, &mut D, &mut World) -> Result<Seq<Seq<u8>>, EventAnswer>,
-    requires gone { HasGone (view_of (D.seen disk.old)) world.old }
+    requires gone { HasGone (D.seen disk.old) world.old }
     requires small { number < 65536 }
     requires event { DoesLines world_game D.seen E.Fn event.now }
-    ensures passes { Passes (StoodUpTo (disk_edge D.seen disk.old disk.new))
-        (turn_lines turn number) (view_of (D.seen disk.old))
-        (view_of (D.seen disk.new)) world.old world.new result }
+    ensures passes { Passes (StoodUpTo D.seen) (turn_lines turn number)
+        (D.seen disk.old) (D.seen disk.new) world.old world.new result }
     ensures counts { RisesPassing ((D.seen disk.old).faults, (D.seen disk.new).faults) result }
 {
     match turn_lines(alloc, turn, number) {
@@ -72,11 +71,10 @@ fn pass_turns<D: SharedDisk, E>(
 ) -> Result<(), Halt>
 where
     E: Fn(&Line, &mut D, &mut World) -> Result<Seq<Seq<u8>>, EventAnswer>,
-    requires gone { HasGone (view_of (D.seen disk.old)) world.old }
+    requires gone { HasGone (D.seen disk.old) world.old }
     requires event { DoesLines world_game D.seen E.Fn event.now }
-    ensures passes { Passes (StoodUpTo (disk_edge D.seen disk.old disk.new))
-        (turns_lines seed count) (view_of (D.seen disk.old))
-        (view_of (D.seen disk.new)) world.old world.new result }
+    ensures passes { Passes (StoodUpTo D.seen) (turns_lines seed count)
+        (D.seen disk.old) (D.seen disk.new) world.old world.new result }
     ensures counts { RisesPassing ((D.seen disk.old).faults, (D.seen disk.new).faults) result }
 {
     let mut state = first_state(seed);
@@ -99,11 +97,10 @@ fn pass_first<D: SharedDisk, E>(
 ) -> Result<(), Halt>
 where
     E: Fn(&Line, &mut D, &mut World) -> Result<Seq<Seq<u8>>, EventAnswer>,
-    requires gone { HasGone (view_of (D.seen disk.old)) world.old }
+    requires gone { HasGone (D.seen disk.old) world.old }
     requires event { DoesLines world_game D.seen E.Fn event.now }
-    ensures passes { Passes (StoodUpTo (disk_edge D.seen disk.old disk.new)) first_lines
-        (view_of (D.seen disk.old)) (view_of (D.seen disk.new))
-        world.old world.new result }
+    ensures passes { Passes (StoodUpTo D.seen) first_lines
+        (D.seen disk.old) (D.seen disk.new) world.old world.new result }
     ensures counts { RisesPassing ((D.seen disk.old).faults, (D.seen disk.new).faults) result }
 {
     match first_lines(alloc) {
@@ -121,11 +118,10 @@ fn pass_closing<D: SharedDisk, E>(
 ) -> Result<(), Halt>
 where
     E: Fn(&Line, &mut D, &mut World) -> Result<Seq<Seq<u8>>, EventAnswer>,
-    requires gone { HasGone (view_of (D.seen disk.old)) world.old }
+    requires gone { HasGone (D.seen disk.old) world.old }
     requires event { DoesLines world_game D.seen E.Fn event.now }
-    ensures passes { Passes (StoodUpTo (disk_edge D.seen disk.old disk.new)) closing_lines
-        (view_of (D.seen disk.old)) (view_of (D.seen disk.new))
-        world.old world.new result }
+    ensures passes { Passes (StoodUpTo D.seen) closing_lines
+        (D.seen disk.old) (D.seen disk.new) world.old world.new result }
     ensures counts { RisesPassing ((D.seen disk.old).faults, (D.seen disk.new).faults) result }
 {
     match closing_lines(alloc) {
@@ -145,11 +141,10 @@ fn pass_front<D: SharedDisk, E>(
 ) -> Result<(), Halt>
 where
     E: Fn(&Line, &mut D, &mut World) -> Result<Seq<Seq<u8>>, EventAnswer>,
-    requires gone { HasGone (view_of (D.seen disk.old)) world.old }
+    requires gone { HasGone (D.seen disk.old) world.old }
     requires event { DoesLines world_game D.seen E.Fn event.now }
-    ensures passes { Passes (StoodUpTo (disk_edge D.seen disk.old disk.new))
-        (first_lines ++ turns_lines seed count) (view_of (D.seen disk.old))
-        (view_of (D.seen disk.new)) world.old world.new result }
+    ensures passes { Passes (StoodUpTo D.seen) (first_lines ++ turns_lines seed count)
+        (D.seen disk.old) (D.seen disk.new) world.old world.new result }
     ensures counts { RisesPassing ((D.seen disk.old).faults, (D.seen disk.new).faults) result }
 {
     match pass_first(alloc, disk, world, event) {
@@ -169,12 +164,10 @@ fn pass_events<D: SharedDisk, E>(
 ) -> Result<(), Halt>
 where
     E: Fn(&Line, &mut D, &mut World) -> Result<Seq<Seq<u8>>, EventAnswer>,
-    requires gone { HasGone (view_of (D.seen disk.old)) world.old }
+    requires gone { HasGone (D.seen disk.old) world.old }
     requires event { DoesLines world_game D.seen E.Fn event.now }
-    ensures passes { Passes (StoodUpTo (disk_edge D.seen disk.old disk.new))
-        (first_lines ++ turns_lines seed count ++ closing_lines)
-        (view_of (D.seen disk.old)) (view_of (D.seen disk.new))
-        world.old world.new result }
+    ensures passes { Passes (StoodUpTo D.seen) (first_lines ++ turns_lines seed count ++ closing_lines)
+        (D.seen disk.old) (D.seen disk.new) world.old world.new result }
     ensures counts { RisesPassing ((D.seen disk.old).faults, (D.seen disk.new).faults) result }
 {
     match pass_front(alloc, count, seed, disk, world, event) {
@@ -183,14 +176,12 @@ where
     }
 }
 
-// Writes the line that tells where the run led. The disk is only read.
+// Writes the line that tells where the run led.
 fn tell<K: Sink, D: SharedDisk>(alloc: Global, out: &mut K, disk: &mut D, world: &World) -> Status8
-    ensures told { (setup : Setup) (state : State Peers) → Shows setup state world.entry.now
-        → Written (TellEnds ((D.seen disk.old).faults, (D.seen disk.new).faults) state
-        (D.seen disk.old).files) (TellLacks ((D.seen disk.old).faults, (D.seen disk.new).faults))
+    ensures { (setup : Setup) (state : State Peers) → Shows setup state world.entry.now
+        → Written (TellEnds (D.seen disk.old) (D.seen disk.new) state)
+        (TellLacks (D.seen disk.old) (D.seen disk.new))
         (edge K.written K.faults out.old out.new) result }
-    ensures same { (D.seen disk.new).files ≡ (D.seen disk.old).files }
-    ensures armed { (D.seen disk.new).tally.armed ≡ (D.seen disk.old).tally.armed }
 {
     match tell_load(alloc, disk, world) {
         Ok(line) => write_text(out, Status8::Done, line.as_bytes()),
@@ -211,16 +202,15 @@ fn run_events<K: Sink, D: SharedDisk, E>(
 ) -> Status8
 where
     E: Fn(&Line, &mut D, &mut World) -> Result<Seq<Seq<u8>>, EventAnswer>,
-    requires begun { HasBegun (view_of (D.seen disk.old)) world.old }
+    requires begun { HasBegun (D.seen disk.old) world.old }
     requires event { DoesLines world_game D.seen E.Fn event.now }
     ensures { (setup : Setup) (places : ℕ) (held : Option Files)
-        → Begun setup places held (view_of (D.seen disk.old)) world.old
+        → Begun setup places held (D.seen disk.old) world.old
         → let events = first_lines ++ turns_lines seed count ++ closing_lines
-        in let left = view_of (D.seen disk.new)
-        in let since = StoodUpTo (disk_edge D.seen disk.old disk.new)
-        in Ended unasked ((D.seen disk.old).faults, (D.seen disk.new).faults)
-        (RunEnds setup places held (D.seen disk.old).faults left since world.new events)
-        (RunWants setup places held (D.seen disk.old).faults left since world.new events)
+        in let first = counters_of (D.seen disk.old) in let left = D.seen disk.new
+        in Ended unasked ((D.seen disk.old).faults, left.faults)
+        (RunEnds setup places held first left (StoodUpTo D.seen) world.new events)
+        (RunWants setup places held first left (StoodUpTo D.seen) world.new events)
         (edge K.written K.faults out.old out.new) result }
 {
     match pass_events(alloc, count, seed, disk, world, event) {
@@ -246,7 +236,7 @@ where
     begin_by(opening_line(), disk, world, begin)
 }
 
-// Begins the cluster, and plays the lines behind its line.
+// Begins the cluster, and plays the lines behind its line. The stage is that of the disk before its names were asked for.
 fn open_load<K: Sink, D: SharedDisk, B, E>(
     alloc: Global,
     count: u32,
@@ -265,9 +255,9 @@ where
     requires unarmed { (D.seen disk.old).tally.armed ≡ None }
     requires begin { BeginsBy world_game D.seen B.Fn begin.now }
     requires event { DoesLines world_game D.seen E.Fn event.now }
-    ensures { LoadedOn (load_lines count seed) (stage (edge K.written K.faults out.old out.new)
-        (disk_edge D.seen disk.old disk.new) (D.seen disk.new).tally.armed world.old world.new)
-        result }
+    ensures { (earlier : D) → D.seen disk.old ≡ names_told (D.seen earlier)
+        → LoadedOn (load_lines count seed) (stage (edge K.written K.faults out.old out.new)
+        D.seen earlier disk.new world.old world.new) result }
 {
     match begin_load(disk, world, begin) {
         Ok(()) => run_events(alloc, count, seed, out, disk, world, event),
@@ -299,8 +289,7 @@ pub fn load<R: Threads + Wait + Sync, K: Sink, D: SharedDisk, G: Gate>(
     requires unarmed { (D.seen disk.old).tally.armed ≡ None }
     ensures script { IsScriptOf (load_lines count seed) (load_text count seed) }
     ensures ends { LoadedOn (load_lines count seed) (stage (edge K.written K.faults out.old out.new)
-        (disk_edge D.seen disk.old disk.new) (D.seen disk.new).tally.armed world.old world.new)
-        result }
+        D.seen disk.old disk.new world.old world.new) result }
 {
     law_of_loads();
     let begin = |line: &Line, disk: &mut D, world: &mut World| -> Result<(), EventAnswer>

@@ -25,8 +25,9 @@ use Rattle.cluster_core.proofs.TwoSeats.{two-good, two_beside}
 use Rattle.cluster_core.specs.Game.{world_game}
 use Rattle.cluster_core.specs.GameLaws.{device_in, world_plays}
 use Rattle.played_runs.proofs.PlayLaws.{played-says, each-played}
+use Rattle.world_runs.specs.Counting.{CallsCounted}
 use Rattle.world_runs.specs.Falling.{CrashesOne, FallsByCause, FaultsFell, other_server}
-use Rattle.cluster_core.specs.Runs.{OfAllLines}
+use Rattle.cluster_core.specs.Runs.{OfAllLines, OfAllLinesOf}
 
 -- Of two servers the other one takes over, whatever the disk fails in.
 
@@ -116,11 +117,16 @@ crashes-one plain shelf device _ state outcome good happens = tt
 
 pub falls-by-cause : (held : Option Files) → OfAllLines held FallsByCause
 falls-by-cause held =
-    each-played world_game world_plays held FallsByCause (λ setup places first lines state told before next outcome after run done. (
+    each-played world_game world_plays held (λ setup. FallsByCause) (λ setup places first lines state told before next outcome after run done. (
       λ calm short stood. servers-stay-up (plain_of setup) (is_plain setup) done.shelf (device_in done) (done.step.caused stood) next state outcome (played-says world_game world_plays setup places held first run).0 calm done.step.happens short,
       crashes-one (plain_of setup) done.shelf (device_in done) next state outcome (played-says world_game world_plays setup places held first run).0.good done.step.happens,
     ))
 
 pub faults-fell : (held : Option Files) → OfAllLines held FaultsFell
 faults-fell held =
-    each-played world_game world_plays held FaultsFell (λ setup places first lines state told before next outcome after run done. (done.later, done.felled))
+    each-played world_game world_plays held (λ setup. FaultsFell) (λ setup places first lines state told before next outcome after run done. (done.later, done.felled))
+
+pub calls-counted : (held : Option Files) → OfAllLinesOf held (CallsCounted held)
+calls-counted held =
+    each-played world_game world_plays held (CallsCounted held) (λ setup places first lines state told before next outcome after run done.
+    record { fails = done.step.fails; caused = done.step.caused; shelf = done.shelf; happens = done.step.happens; counts = done.counts })

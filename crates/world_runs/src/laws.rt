@@ -1,13 +1,14 @@
 //! What holds of every run of lines on the world of two servers.
 ghost use Rattle.std.specs.Prelude.{Option};
 ghost use Rattle.disk_model.specs.Disk.{Files};
+ghost use Rattle.disk_model.specs.Seen.{DiskSeen};
 ghost use Rattle.played_runs.specs.Promises.{CallsBack, CommitsInTime, KeepsFiles, KeepsOneHistory, KeepsRecords};
 ghost use Rattle.played_runs.specs.Promises.{PrintsPosts, ReadsRightly, RepliesRightly, SettlesAll, StandsOnce};
 ghost use Rattle.played_runs.specs.Refusing.{DeclinesRightly};
 ghost use Rattle.played_runs.specs.Telling.{TellsOnce};
-ghost use Rattle.played_runs.specs.Views.{DiskView};
 ghost use Rattle.cluster_core.specs.declared.world.World.{World};
-ghost use Rattle.cluster_core.specs.Runs.{KeepsAtFault, OfAllLines, TellsAtWant, Throughout};
+ghost use Rattle.cluster_core.specs.Runs.{KeepsAtFault, OfAllLines, OfAllLinesOf, TellsAtWant, Throughout};
+ghost use Rattle.world_runs.specs.Counting.{CallsCounted};
 ghost use Rattle.world_runs.specs.Falling.{FallsByCause, FaultsFell};
 
 /// What holds at the end of every line that was played over a disk that told these files before the run; and where a fault of the disk, or
@@ -19,6 +20,7 @@ pub fn law_of_runs()
     ensures in_time { (held : Option Files) → OfAllLines held CommitsInTime }
     ensures falls { (held : Option Files) → OfAllLines held FallsByCause }
     ensures fells { (held : Option Files) → OfAllLines held FaultsFell }
+    ensures calls { (held : Option Files) → OfAllLinesOf held (CallsCounted held) }
     ensures readers { (held : Option Files) → Throughout held ReadsRightly }
     ensures callbacks { (held : Option Files) → Throughout held CallsBack }
     ensures tells_once { (held : Option Files) → Throughout held TellsOnce }
@@ -27,8 +29,8 @@ pub fn law_of_runs()
     ensures stays { (held : Option Files) → Throughout held KeepsRecords }
     ensures stands_once { (held : Option Files) → Throughout held StandsOnce }
     ensures settles { (held : Option Files) → Throughout held SettlesAll }
-    ensures fault_keeps { (held : Option Files) (left : DiskView) (world : World)
+    ensures fault_keeps { (held : Option Files) (left : DiskSeen) (world : World)
         → KeepsAtFault held left world }
-    ensures want_tells { (held : Option Files) (left : DiskView) (world : World)
+    ensures want_tells { (held : Option Files) (left : DiskSeen) (world : World)
         → TellsAtWant held left world }
 {}

@@ -1,6 +1,6 @@
 //! Playing a script on the world of two servers.
 ghost use Rattle.std.specs.Prelude.{◌≡◌, None};
-ghost use Rattle.played_runs.specs.Edges.{disk_edge, edge, stage};
+ghost use Rattle.played_runs.specs.Edges.{edge, stage};
 ghost use Rattle.played_runs.specs.Handed.{CanDo, CanOpen};
 ghost use Rattle.played_runs.specs.Steps.{IsPlayable, PlayedOn};
 ghost use Rattle.cluster_core.specs.Game.{world_game};
@@ -33,8 +33,7 @@ pub fn play_script<R: Threads + Wait + Sync, K: Sink, D: SharedDisk, G: Gate>(
     requires empty { world.old ≡ empty_world }
     requires unarmed { (D.seen disk.old).tally.armed ≡ None }
     ensures { PlayedOn world_game lines (stage (edge K.written K.faults out.old out.new)
-        (disk_edge D.seen disk.old disk.new) (D.seen disk.new).tally.armed world.old world.new)
-        result }
+        D.seen disk.old disk.new world.old world.new) result }
 {
     let begin = |line: &Line, disk: &mut D, world: &mut World| -> Result<(), EventAnswer>
         requires { CanOpen world_game D.seen line.now disk.old world.old }

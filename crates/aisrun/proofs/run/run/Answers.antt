@@ -1,4 +1,3 @@
-use Rattle.cluster_core.specs.Worlds.{view_of}
 use Rattle.aisrun.proofs.StatusLaws.{ends-by, rises-by}
 use Rattle.aisrun.proofs.CompletenessLaws.{completes, checks, exprs, scans}
 use Rattle.aisrun.proofs.GeneratingLaws.{generates}
@@ -29,6 +28,9 @@ returns-clause-falls g c = c.law_of_runs.ensures.falls _
 pub returns-clause-fells : goal.returns-clause-fells
 returns-clause-fells g c = c.law_of_runs.ensures.fells _
 
+pub returns-clause-calls : goal.returns-clause-calls
+returns-clause-calls g c = c.law_of_runs.ensures.calls (g.D.SharedDisk.seen c.args.disk.now).files
+
 pub returns-clause-readers : goal.returns-clause-readers
 returns-clause-readers g c = c.law_of_runs.ensures.readers _
 
@@ -55,11 +57,11 @@ returns-clause-settles g c = c.law_of_runs.ensures.settles _
 
 pub returns-clause-fault_keeps : goal.returns-clause-fault_keeps
 returns-clause-fault_keeps g c =
-    c.law_of_runs.ensures.fault_keeps (g.D.SharedDisk.seen c.args.disk.now).files (view_of (g.D.SharedDisk.seen c.run_words.new.disk)) c.run_words.new.world
+    c.law_of_runs.ensures.fault_keeps (g.D.SharedDisk.seen c.args.disk.now).files (g.D.SharedDisk.seen c.run_words.new.disk) c.run_words.new.world
 
 pub returns-clause-want_tells : goal.returns-clause-want_tells
 returns-clause-want_tells g c =
-    c.law_of_runs.ensures.want_tells (g.D.SharedDisk.seen c.args.disk.now).files (view_of (g.D.SharedDisk.seen c.run_words.new.disk)) c.run_words.new.world
+    c.law_of_runs.ensures.want_tells (g.D.SharedDisk.seen c.args.disk.now).files (g.D.SharedDisk.seen c.run_words.new.disk) c.run_words.new.world
 
 pub returns-clause-completes : goal.returns-clause-completes
 returns-clause-completes g c can none =

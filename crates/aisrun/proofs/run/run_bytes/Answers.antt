@@ -3,7 +3,7 @@ use Rattle.std.specs.Prelude.{codes}
 use Rattle.std.specs.Fmt.{decimal}
 use Rattle.script_lines.specs.Refusals.{why_word}
 use Rattle.played_runs.specs.declared.ending.Status8.TheVariants.{ScriptRefused}
-use Rattle.played_runs.specs.Edges.{disk_edge, edge, fault_count, stage}
+use Rattle.played_runs.specs.Edges.{edge, fault_count, stage}
 use Rattle.played_runs.specs.Writing.{Counting, IsNone, IsText, Standing, unasked}
 use Rattle.played_runs.proofs.CountSteps.{on-same}
 use Rattle.played_runs.proofs.EndingSteps.{lacked, text-ends}
@@ -21,7 +21,7 @@ play_script-requires-clause-script g c κs within = can-play c.in-Ok.lines c.arg
 pub returns-in-Ok : goal.returns-in-Ok
 returns-in-Ok g c =
     let sink = edge g.K.Sink.written g.K.Sink.faults c.args.out.now c.play_script.new.out in
-    let scene = stage sink (disk_edge g.D.SharedDisk.seen c.args.disk.now c.play_script.new.disk) (g.D.SharedDisk.seen c.play_script.new.disk).tally.armed c.args.world.now c.play_script.new.world in
+    let scene = stage sink g.D.SharedDisk.seen c.args.disk.now c.play_script.new.disk c.args.world.now c.play_script.new.world in
     let lines = c.in-Ok.lines in
     let script = c.in-Ok.ensures.lines in
     ended-as unasked (fault_count scene.disk) (PlayEnds lines scene) (BytesEnd c.args.bytes.now scene) (PlayLacks lines scene) (BytesLack c.args.bytes.now scene) sink c.play_script.result (play-bytes scene c.args.bytes.now lines script) (λ text lacks. inr (lines, script, lacks)) c.play_script.ensures
@@ -32,7 +32,7 @@ returns-in-Err-Memory g c = lacked _ _ _ (inl (refl, record { disk = refl; world
 pub returns-in-Err-Bad : goal.returns-in-Err-Bad
 returns-in-Err-Bad g c =
     let sink = edge g.K.Sink.written g.K.Sink.faults c.args.out.now c.write_bad.new.out in
-    let scene = stage sink (disk_edge g.D.SharedDisk.seen c.args.disk.now c.args.disk.now) (g.D.SharedDisk.seen c.args.disk.now).tally.armed c.args.world.now c.args.world.now in
+    let scene = stage sink g.D.SharedDisk.seen c.args.disk.now c.args.disk.now c.args.world.now c.args.world.now in
     let disk = fault_count scene.disk in
     let line = c.in-Err-Bad.line in
     let why = c.in-Err-Bad.why in

@@ -28,8 +28,8 @@ returns-in-Run g c =
     let source = edge g.S.Source.left g.S.Source.faults c.args.source.now c.run_script.new.source in
     let sink = edge g.K.Sink.written g.K.Sink.faults c.args.out.now c.run_script.new.out in
     let disk = disk_edge g.D.SharedDisk.seen c.args.disk.now c.run_script.new.disk in
-    let scene = stage sink disk (g.D.SharedDisk.seen c.run_script.new.disk).tally.armed c.args.world.now c.run_script.new.world in
-    let run = around words source sink disk (g.D.SharedDisk.seen c.run_script.new.disk).tally.armed c.args.world.now c.run_script.new.world in
+    let scene = stage sink g.D.SharedDisk.seen c.args.disk.now c.run_script.new.disk c.args.world.now c.run_script.new.world in
+    let run = around words source sink g.D.SharedDisk.seen c.args.disk.now c.run_script.new.disk c.args.world.now c.run_script.new.world in
     ended-as (fault_count source) (fault_count disk) (InputEnds source scene) (Ends run) (InputLacks source scene) (WordsLack run) sink c.run_script.result (input-run run asked) (input-lack run asked) c.run_script.ensures
 
 pub returns-in-Check : goal.returns-in-Check
@@ -39,7 +39,7 @@ returns-in-Check g c =
     let source = edge g.S.Source.left g.S.Source.faults c.args.source.now c.run_check.new.source in
     let sink = edge g.K.Sink.written g.K.Sink.faults c.args.out.now c.run_check.new.out in
     let disk = disk_edge g.D.SharedDisk.seen c.args.disk.now c.args.disk.now in
-    let run = around words source sink disk (g.D.SharedDisk.seen c.args.disk.now).tally.armed c.args.world.now c.args.world.now in
+    let run = around words source sink g.D.SharedDisk.seen c.args.disk.now c.args.disk.now c.args.world.now c.args.world.now in
     ended-alone (fault_count source) (fault_count disk) (CheckEnds source) (Ends run) IsNone (WordsLack run) sink c.run_check.result refl (check-run run asked (record { disk = refl; world = refl })) (λ text none. subst (λ (o : Option Command). LacksBy o run text) (sym asked) (none, record { disk = refl; world = refl })) c.run_check.ensures
 
 pub returns-in-Expr : goal.returns-in-Expr
@@ -50,7 +50,7 @@ returns-in-Expr g c =
     let source = edge g.S.Source.left g.S.Source.faults c.args.source.now c.args.source.now in
     let sink = edge g.K.Sink.written g.K.Sink.faults c.args.out.now c.write_end.new.out in
     let disk = disk_edge g.D.SharedDisk.seen c.args.disk.now c.args.disk.now in
-    let run = around words source sink disk (g.D.SharedDisk.seen c.args.disk.now).tally.armed c.args.world.now c.args.world.now in
+    let run = around words source sink g.D.SharedDisk.seen c.args.disk.now c.args.disk.now c.args.world.now c.args.world.now in
     end-written (Counting (fault_count source) (fault_count disk) (Ends run)) (Standing (fault_count source) (fault_count disk) (WordsLack run)) c.check_text.result sink c.write_end.result c.write_end.ensures (ok-ends c.check_text.result (ExprEnds kind (text_of words)) (Counting (fault_count source) (fault_count disk) (Ends run)) (expr-run run kind asked (record { disk = refl; world = refl }) refl) (subst (λ (said : List ℕ). IfOk c.check_text.result (λ one. ExprEnds kind said one.status one.text.items)) c.text_of.ensures c.check_text.ensures)) (subst (λ (o : Option Command). LacksBy o run []) (sym asked) (refl, record { disk = refl; world = refl }, refl), refl, on-same (g.D.SharedDisk.seen c.args.disk.now).faults)
 
 pub returns-in-Gen : goal.returns-in-Gen
@@ -60,7 +60,7 @@ returns-in-Gen g c =
     let source = edge g.S.Source.left g.S.Source.faults c.args.source.now c.args.source.now in
     let sink = edge g.K.Sink.written g.K.Sink.faults c.args.out.now c.generate.new.out in
     let disk = disk_edge g.D.SharedDisk.seen c.args.disk.now c.args.disk.now in
-    let run = around words source sink disk (g.D.SharedDisk.seen c.args.disk.now).tally.armed c.args.world.now c.args.world.now in
+    let run = around words source sink g.D.SharedDisk.seen c.args.disk.now c.args.disk.now c.args.world.now c.args.world.now in
     gen-run run c.in-Gen.count c.in-Gen.seed asked (record { disk = refl; world = refl }) refl c.generate.result c.generate.ensures
 
 pub returns-in-Load : goal.returns-in-Load
@@ -72,9 +72,8 @@ returns-in-Load g c =
     let source = edge g.S.Source.left g.S.Source.faults c.args.source.now c.args.source.now in
     let sink = edge g.K.Sink.written g.K.Sink.faults c.args.out.now c.load.new.out in
     let disk = disk_edge g.D.SharedDisk.seen c.args.disk.now c.load.new.disk in
-    let armed = (g.D.SharedDisk.seen c.load.new.disk).tally.armed in
-    let scene = stage sink disk armed c.args.world.now c.load.new.world in
-    let run = around words source sink disk armed c.args.world.now c.load.new.world in
+    let scene = stage sink g.D.SharedDisk.seen c.args.disk.now c.load.new.disk c.args.world.now c.load.new.world in
+    let run = around words source sink g.D.SharedDisk.seen c.args.disk.now c.load.new.disk c.args.world.now c.load.new.world in
     let lines = load_lines count seed in
     ended-read (fault_count source) (fault_count disk) (LoadEnds lines scene) (Ends run) (LoadWants lines scene) (WordsLack run) sink c.load.result refl (load-run run count seed asked refl c.load.ensures.script) (load-lack run count seed asked refl c.load.ensures.script) c.load.ensures.ends
 
@@ -86,7 +85,7 @@ returns-in-Scan g c =
     let source = edge g.S.Source.left g.S.Source.faults c.args.source.now c.scan.new.source in
     let sink = edge g.K.Sink.written g.K.Sink.faults c.args.out.now c.scan.new.out in
     let disk = disk_edge g.D.SharedDisk.seen c.args.disk.now c.args.disk.now in
-    let run = around words source sink disk (g.D.SharedDisk.seen c.args.disk.now).tally.armed c.args.world.now c.args.world.now in
+    let run = around words source sink g.D.SharedDisk.seen c.args.disk.now c.args.disk.now c.args.world.now c.args.world.now in
     let text = c.text_of-in-Scan.result.now in
     let wanted = c.wanted_of.result.now in
     let by_wanted = subst (λ (one : List ℕ). Ended (fault_count source) unasked (ScanEnds query text one source) (ScanLacks query text one source) sink c.scan.result) c.wanted_of.ensures c.scan.ensures in

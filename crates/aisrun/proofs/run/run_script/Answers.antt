@@ -1,5 +1,5 @@
 use Rattle.std.proofs.Common.{ℕ, List, length, inl, inr, refl, ap, sym, subst, arith}
-use Rattle.played_runs.specs.Edges.{disk_edge, edge, fault_count, stage}
+use Rattle.played_runs.specs.Edges.{edge, fault_count, stage}
 use Rattle.played_runs.proofs.WritingSteps.{ended-read}
 use Rattle.aisrun.specs.Endings.{input_limit, ReadsWhole}
 use Rattle.aisrun.specs.RunSteps.{InputEnds, InputLacks}
@@ -15,7 +15,7 @@ unfolding input_limit
 returns-in-Ok g c =
     let source = edge g.S.Source.left g.S.Source.faults c.args.source.now c.read_all.new.source in
     let sink = edge g.K.Sink.written g.K.Sink.faults c.args.out.now c.run_bytes.new.out in
-    let scene = stage sink (disk_edge g.D.SharedDisk.seen c.args.disk.now c.run_bytes.new.disk) (g.D.SharedDisk.seen c.run_bytes.new.disk).tally.armed c.args.world.now c.run_bytes.new.world in
+    let scene = stage sink g.D.SharedDisk.seen c.args.disk.now c.run_bytes.new.disk c.args.world.now c.run_bytes.new.world in
     let bytes = c.as_slice.result.now in
     let whole = subst (λ (one : List ℕ). ReadsWhole source one) (sym c.as_slice.ensures.value) c.in-Ok.ensures.bytes in
     ended-read (fault_count source) (fault_count scene.disk) (BytesEnd bytes scene) (InputEnds source scene) (BytesLack bytes scene) (InputLacks source scene) sink c.run_bytes.result c.in-Ok.ensures.cause.stands (bytes-input source scene bytes whole) (λ text lacks. inr (bytes, whole, lacks)) c.run_bytes.ensures
@@ -25,6 +25,6 @@ unfolding input_limit
 returns-in-Err g c =
     let source = edge g.S.Source.left g.S.Source.faults c.args.source.now c.read_all.new.source in
     let sink = edge g.K.Sink.written g.K.Sink.faults c.args.out.now c.write_unread.new.out in
-    let scene = stage sink (disk_edge g.D.SharedDisk.seen c.args.disk.now c.args.disk.now) (g.D.SharedDisk.seen c.args.disk.now).tally.armed c.args.world.now c.args.world.now in
+    let scene = stage sink g.D.SharedDisk.seen c.args.disk.now c.args.disk.now c.args.world.now c.args.world.now in
     unread-written source (fault_count scene.disk) (InputEnds source scene) (InputLacks source scene) c.in-Err.answer sink c.write_unread.result refl c.in-Err.ensures.bytes c.in-Err.ensures.cause
     (λ text failed. (record { disk = refl; world = refl }, failed)) (λ text long. (record { disk = refl; world = refl }, long)) (inl (refl, record { disk = refl; world = refl })) c.write_unread.ensures

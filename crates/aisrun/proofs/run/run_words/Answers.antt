@@ -21,7 +21,7 @@ returns-in-Ok-None g c =
     let source = edge g.S.Source.left g.S.Source.faults c.args.source.now c.args.source.now in
     let sink = edge g.K.Sink.written g.K.Sink.faults c.args.out.now c.write_end.new.out in
     let disk = disk_edge g.D.SharedDisk.seen c.args.disk.now c.args.disk.now in
-    let run = around words source sink disk (g.D.SharedDisk.seen c.args.disk.now).tally.armed c.args.world.now c.args.world.now in
+    let run = around words source sink g.D.SharedDisk.seen c.args.disk.now c.args.disk.now c.args.world.now c.args.world.now in
     end-written (Counting (fault_count source) (fault_count disk) (Ends run)) (Standing (fault_count source) (fault_count disk) (WordsLack run)) c.usage.result sink c.write_end.result c.write_end.ensures (usage-run run asked (record { disk = refl; world = refl }) refl c.usage.result c.usage.ensures.status c.usage.ensures.text) (lacks-early run (command_of words) (record { disk = refl; world = refl }) refl, refl, on-same (g.D.SharedDisk.seen c.args.disk.now).faults)
 
 pub returns-in-Err : goal.returns-in-Err
@@ -30,5 +30,5 @@ returns-in-Err g c =
     let source = edge g.S.Source.left g.S.Source.faults c.args.source.now c.args.source.now in
     let sink = edge g.K.Sink.written g.K.Sink.faults c.args.out.now c.args.out.now in
     let disk = disk_edge g.D.SharedDisk.seen c.args.disk.now c.args.disk.now in
-    let run = around words source sink disk (g.D.SharedDisk.seen c.args.disk.now).tally.armed c.args.world.now c.args.world.now in
+    let run = around words source sink g.D.SharedDisk.seen c.args.disk.now c.args.disk.now c.args.world.now c.args.world.now in
     lacked (Counting (fault_count source) (fault_count disk) (Ends run)) (Standing (fault_count source) (fault_count disk) (WordsLack run)) sink (lacks-early run (command_of words) (record { disk = refl; world = refl }) refl, refl, on-same (g.D.SharedDisk.seen c.args.disk.now).faults) refl

@@ -1,10 +1,8 @@
 use Rattle.std.proofs.Common.{List, sym, subst}
 use Rattle.script_lines.specs.declared.line.Line.{Line}
-use Rattle.cluster_core.specs.Worlds.{view_of}
 use Rattle.load_lines.specs.Lines.{closing_lines}
 use Rattle.cluster_core.specs.Game.{world_game}
 use Rattle.cluster_core.specs.GameLaws.{world_plays}
-use Rattle.played_runs.specs.Edges.{disk_edge}
 use Rattle.played_runs.specs.Ends.{StoodUpTo}
 use Rattle.played_runs.proofs.PassingSteps.{passes-unmade}
 use Rattle.cluster_core.specs.Runs.{CanPass, Passes}
@@ -17,10 +15,10 @@ pass_lines-requires-clause-can g c =
 
 pub returns-in-Ok-clause-passes : goal.returns-in-Ok-clause-passes
 returns-in-Ok-clause-passes g c =
-    let mid = view_of (g.D.SharedDisk.seen c.args.disk.now) in
-    let left = view_of (g.D.SharedDisk.seen c.pass_lines.new.disk) in
-    subst (λ (all : List Line). Passes (StoodUpTo (disk_edge g.D.SharedDisk.seen c.args.disk.now c.pass_lines.new.disk)) all mid left c.args.world.now c.pass_lines.new.world c.pass_lines.result) c.in-Ok.ensures c.pass_lines.ensures.passes
+    let mid = g.D.SharedDisk.seen c.args.disk.now in
+    let left = g.D.SharedDisk.seen c.pass_lines.new.disk in
+    subst (λ (all : List Line). Passes (StoodUpTo g.D.SharedDisk.seen) all mid left c.args.world.now c.pass_lines.new.world c.pass_lines.result) c.in-Ok.ensures c.pass_lines.ensures.passes
 
 pub returns-in-Err-clause-passes : goal.returns-in-Err-clause-passes
 returns-in-Err-clause-passes g c =
-    passes-unmade world_game world_plays (StoodUpTo (disk_edge g.D.SharedDisk.seen c.args.disk.now c.args.disk.now)) closing_lines (view_of (g.D.SharedDisk.seen c.args.disk.now)) c.args.world.now
+    passes-unmade world_game world_plays (StoodUpTo g.D.SharedDisk.seen) closing_lines (g.D.SharedDisk.seen c.args.disk.now) c.args.world.now

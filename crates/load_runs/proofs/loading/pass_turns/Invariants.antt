@@ -1,8 +1,6 @@
 use Rattle.std.proofs.Common.{◌≡◌, ◌≤◌, Ok}
 use Rattle.load_script.specs.Numbers.{state_at}
 use Rattle.load_lines.specs.Lines.{turns_lines}
-use Rattle.cluster_core.specs.Worlds.{view_of}
-use Rattle.played_runs.specs.Edges.{disk_edge}
 use Rattle.played_runs.specs.Ends.{StoodUpTo}
 use Rattle.cluster_core.specs.Runs.{Passes}
 use Rattle.load_runs.proofs.loading.pass_turns.Given as goal
@@ -10,6 +8,6 @@ use Rattle.load_runs.proofs.loading.pass_turns.Given as goal
 abbrev pub invariant-loop-done : goal.invariant-loop-done
 invariant-loop-done g l = record {
   state : l.state ≡ state_at l.seed l.done;
-  passes : Passes (StoodUpTo (disk_edge g.D.SharedDisk.seen l.fn.disk l.disk)) (turns_lines l.seed l.done) (view_of (g.D.SharedDisk.seen l.fn.disk)) (view_of (g.D.SharedDisk.seen l.disk)) l.fn.world l.world (Ok tt);
+  passes : Passes (StoodUpTo g.D.SharedDisk.seen) (turns_lines l.seed l.done) (g.D.SharedDisk.seen l.fn.disk) (g.D.SharedDisk.seen l.disk) l.fn.world l.world (Ok tt);
   disk : (g.D.SharedDisk.seen l.fn.disk).faults ≤ (g.D.SharedDisk.seen l.disk).faults;
 }

@@ -1,4 +1,4 @@
-use Rattle.std.proofs.Common.{ℕ, List, Err, refl, ap, sym, subst}
+use Rattle.std.proofs.Common.{ℕ, true, false, List, Err, refl, ap, sym, subst}
 use Rattle.played_runs.specs.declared.ending.Status8.TheVariants.{Done, DiskFault}
 use Rattle.played_runs.specs.declared.passing.Halt.TheVariants as halt
 use Rattle.played_runs.specs.Counts.{HasRisen}
@@ -6,28 +6,35 @@ use Rattle.played_runs.specs.Edges.{edge}
 use Rattle.played_runs.specs.Ends.{fault_line}
 use Rattle.played_runs.proofs.CountSteps.{other-stood}
 use Rattle.played_runs.proofs.EndingSteps.{lacked, text-written}
-use Rattle.load_runs.specs.Loading.{TellsLoad}
+use Rattle.load_runs.specs.Loading.{FilesCounted, TellsLoad}
 use Rattle.load_runs.specs.LoadSteps.{TellEnds, TellLacks}
 use Rattle.load_runs.proofs.loading.tell.Goals as goal
 
-pub returns-in-Ok-clause-told : goal.returns-in-Ok-clause-told
-returns-in-Ok-clause-told g c setup state shows =
-    let held = (g.D.SharedDisk.seen c.args.disk.now).files in
-    let disk : ℕ × ℕ = ((g.D.SharedDisk.seen c.args.disk.now).faults, (g.D.SharedDisk.seen c.tell_load.new.disk).faults) in
+pub returns-in-Ok : goal.returns-in-Ok
+returns-in-Ok g c setup state shows =
+    let held = g.D.SharedDisk.seen c.args.disk.now in
+    let left = g.D.SharedDisk.seen c.tell_load.new.disk in
+    let made = c.in-Ok.ensures in
     let sink = edge g.K.Sink.written g.K.Sink.faults c.args.out.now c.write_text.new.out in
-    let told = subst (λ (text : List ℕ). TellsLoad state held text) (sym c.as_bytes.ensures.value) (c.in-Ok.ensures.told setup state shows) in
-    text-written (TellEnds disk state held) (TellLacks disk) Done c.as_bytes.result.now sink c.write_text.result (told, c.in-Ok.ensures.cause.stands) c.write_text.ensures
+    let told = subst (λ (text : List ℕ). TellsLoad state held.files text) (sym c.as_bytes.ensures.value) (made.told setup state shows) in
+    let counted : FilesCounted true held left = record { files = made.same; looks = made.looks; stops = made.stops } in
+    text-written (TellEnds held left state) (TellLacks held left) Done c.as_bytes.result.now sink c.write_text.result (told, counted, made.cause.stands) c.write_text.ensures
 
-pub returns-in-Err-Memory-clause-told : goal.returns-in-Err-Memory-clause-told
-returns-in-Err-Memory-clause-told g c setup state shows =
-    let stood = other-stood (g.D.SharedDisk.seen c.args.disk.now).faults (g.D.SharedDisk.seen c.tell_load.new.disk).faults c.in-Err-Memory.field-0 halt.DiskFault halt.Memory c.in-Err-Memory.ensures.cause c.in-Err-Memory.field-0-is (λ is. cc) in
-    lacked _ _ _ (refl, stood) refl
+pub returns-in-Err-Memory : goal.returns-in-Err-Memory
+returns-in-Err-Memory g c setup state shows =
+    let held = g.D.SharedDisk.seen c.args.disk.now in
+    let left = g.D.SharedDisk.seen c.tell_load.new.disk in
+    let broke = c.in-Err-Memory.ensures in
+    let stood = other-stood held.faults left.faults c.in-Err-Memory.field-0 halt.DiskFault halt.Memory broke.cause c.in-Err-Memory.field-0-is (λ is. cc) in
+    let counted : FilesCounted false held left = record { files = broke.same; looks = broke.looks; stops = broke.stops } in
+    lacked _ _ _ (refl, counted, stood) refl
 
-pub returns-in-Err-DiskFault-clause-told : goal.returns-in-Err-DiskFault-clause-told
-returns-in-Err-DiskFault-clause-told g c setup state shows =
-    let held = (g.D.SharedDisk.seen c.args.disk.now).files in
-    let disk : ℕ × ℕ = ((g.D.SharedDisk.seen c.args.disk.now).faults, (g.D.SharedDisk.seen c.tell_load.new.disk).faults) in
+pub returns-in-Err-DiskFault : goal.returns-in-Err-DiskFault
+returns-in-Err-DiskFault g c setup state shows =
+    let held = g.D.SharedDisk.seen c.args.disk.now in
+    let left = g.D.SharedDisk.seen c.tell_load.new.disk in
+    let broke = c.in-Err-DiskFault.ensures in
     let sink = edge g.K.Sink.written g.K.Sink.faults c.args.out.now c.write_broken.new.out in
-    let cause = c.in-Err-DiskFault.ensures.cause in
-    let risen : HasRisen disk = (cause.later, cause.rose (ap Err c.in-Err-DiskFault.field-0-is)) in
-    text-written (TellEnds disk state held) (TellLacks disk) DiskFault fault_line sink c.write_broken.result (refl, risen) c.write_broken.ensures
+    let risen : HasRisen (held.faults, left.faults) = (broke.cause.later, broke.cause.rose (ap Err c.in-Err-DiskFault.field-0-is)) in
+    let counted : FilesCounted false held left = record { files = broke.same; looks = broke.looks; stops = broke.stops } in
+    text-written (TellEnds held left state) (TellLacks held left) DiskFault fault_line sink c.write_broken.result (refl, counted, risen) c.write_broken.ensures

@@ -5,7 +5,7 @@ use Rattle.played_runs.proofs.PromiseLaws.{keeps-one-history, replies-rightly, r
 use Rattle.played_runs.proofs.RefusalLaws.{declines-rightly}
 use Rattle.played_runs.proofs.TellingLaws.{tells-once, tells-at-want}
 use Rattle.played_runs.proofs.TimeLaws.{commits-in-time}
-use Rattle.world_runs.proofs.FallLaws.{falls-by-cause, faults-fell}
+use Rattle.world_runs.proofs.FallLaws.{calls-counted, falls-by-cause, faults-fell}
 use Rattle.world_runs.proofs.laws.law_of_runs.Goals as goal
 
 pub returns-clause-one_history : goal.returns-clause-one_history
@@ -25,6 +25,9 @@ returns-clause-falls c held = falls-by-cause held
 
 pub returns-clause-fells : goal.returns-clause-fells
 returns-clause-fells c held = faults-fell held
+
+pub returns-clause-calls : goal.returns-clause-calls
+returns-clause-calls c held = calls-counted held
 
 pub returns-clause-readers : goal.returns-clause-readers
 returns-clause-readers c held = reads-rightly world_game world_plays held
