@@ -1,6 +1,7 @@
 //! Whole runs over objects in memory: what they print, and the calls outside failing in turn.
 mod failing_calls;
 mod failing_servers;
+mod gates;
 mod rows;
 mod short_disk;
 mod stops;
