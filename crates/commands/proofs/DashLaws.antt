@@ -1,6 +1,6 @@
 -- Words that are no line, since one begins with a minus sign or there are none or too many, are no command.
-use Rattle.std.proofs.Common.{◌≡◌, ◌⊎◌, ℕ, zero, suc, ◌^◌, ◌<◌, inl, inr, List, [], ◌∷◌, Bool, true, false, cond, not, ◌&&◌, Option, Some, None, refl, ap, sym, ◌∙◌, subst, arith, get_or}
-use Rattle.std.specs.Prelude.{codes, option_and_then}
+use Rattle.std.proofs.Common.{◌≡◌, ◌⊎◌, ℕ, zero, suc, ◌^◌, ◌<◌, ◌≤◌, inl, inr, List, [], ◌∷◌, Bool, true, false, cond, not, ◌&&◌, Option, Some, None, refl, ap, sym, ◌∙◌, subst, arith, get_or, length, map}
+use Rattle.std.specs.Prelude.{codes, nat_lt, option_and_then}
 use Rattle.std.specs.Fmt.{decimal}
 use Rattle.std.specs.List.{list_any}
 use Rattle.std.proofs.lemmas.Bool.{and_left, and_right, eqb-true, or_cases}
@@ -177,3 +177,40 @@ read-line words found some =
       | false ↦ λ is. let no : Some found ≡ None = is in absurd cc
     ] in
     at (is_line words) some
+
+-- no word of a line begins with a minus sign
+pub plain-line : (words found : List (List ℕ)) → Some found ≡ line_of words → list_any is_dashed found ≡ false
+plain-line words found some =
+    let few = nat_lt 0 (length words) && nat_lt (length words) 7 in
+    let at : (dashed : Bool) → list_any is_dashed words ≡ dashed → Some found ≡ cond (not dashed && few) (Some words) None → list_any is_dashed words ≡ false = elim [
+      | true ↦ λ is none. let no : Some found ≡ None = none in absurd cc
+      | false ↦ λ is told. is
+    ] in
+    subst (λ (all : List (List ℕ)). list_any is_dashed all ≡ false) (sym (read-line words found some)) (at (list_any is_dashed words) refl some)
+
+-- of two words, of five, and of more than six there is no command
+module _ {X : Type 0} (word : X → List ℕ) where
+  pub none-of-two : (xs : List X) → 2 ≤ length xs → length xs < 3 → None ≡ command_of (map word xs)
+  none-of-two [] low high = absurd (omega arith)
+  none-of-two (a ∷ []) low high = absurd (omega arith)
+  none-of-two (a ∷ b ∷ []) low high = refl
+  none-of-two (a ∷ b ∷ c ∷ xs) low high = absurd (omega arith)
+
+  pub none-of-five : (xs : List X) → 5 ≤ length xs → length xs < 6 → None ≡ command_of (map word xs)
+  none-of-five [] low high = absurd (omega arith)
+  none-of-five (a ∷ []) low high = absurd (omega arith)
+  none-of-five (a ∷ b ∷ []) low high = absurd (omega arith)
+  none-of-five (a ∷ b ∷ c ∷ []) low high = absurd (omega arith)
+  none-of-five (a ∷ b ∷ c ∷ d ∷ []) low high = absurd (omega arith)
+  none-of-five (a ∷ b ∷ c ∷ d ∷ e ∷ []) low high = refl
+  none-of-five (a ∷ b ∷ c ∷ d ∷ e ∷ f ∷ xs) low high = absurd (omega arith)
+
+  pub none-of-more : (xs : List X) → 7 ≤ length xs → None ≡ command_of (map word xs)
+  none-of-more [] low = absurd (omega arith)
+  none-of-more (a ∷ []) low = absurd (omega arith)
+  none-of-more (a ∷ b ∷ []) low = absurd (omega arith)
+  none-of-more (a ∷ b ∷ c ∷ []) low = absurd (omega arith)
+  none-of-more (a ∷ b ∷ c ∷ d ∷ []) low = absurd (omega arith)
+  none-of-more (a ∷ b ∷ c ∷ d ∷ e ∷ []) low = absurd (omega arith)
+  none-of-more (a ∷ b ∷ c ∷ d ∷ e ∷ f ∷ []) low = absurd (omega arith)
+  none-of-more (a ∷ b ∷ c ∷ d ∷ e ∷ f ∷ g ∷ xs) low = refl

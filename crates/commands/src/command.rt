@@ -1,10 +1,12 @@
 //! The words of the command line.
-ghost use Rattle.std.specs.Prelude.{◌≡◌, ◌<◌, ◌^◌, IfOk, map, string_bytes};
+ghost use Rattle.std.specs.Prelude.{◌≡◌, ◌<◌, ◌^◌, IfOk, false, map, string_bytes};
+ghost use Rattle.std.specs.List.{list_any};
+ghost use Rattle.command_line.specs.Lines.{is_dashed};
 ghost use Rattle.commands.specs.Commands.{command_of, command_of_three, expr_command, find_command, gen_command, kind_of_word, load_command};
 ghost use Rattle.commands.specs.Commands.{lone_command, number_of, record_size, records_command, scan_command, text_of, wanted_of};
 
 use ais_values::StreamKind;
-use command_line::{is_dashed, read_line};
+use command_line::read_line;
 use scan_lines::Shown;
 use script::whole_number;
 use std::alloc::{AllocError, Global};
@@ -61,11 +63,12 @@ fn kind_of_word(word: &str) -> Option<StreamKind>
     }
 }
 
-// The command on an expression.
+// The command on an expression. No word of a line begins with a minus sign.
 fn expr_command(word: &str, name: &str, text: &str) -> Option<Command>
+    requires { is_dashed text.now ≡ false }
     ensures { result ≡ expr_command word.now name.now text.now }
 {
-    if word != "expr" || is_dashed(text) {
+    if word != "expr" {
         return None;
     }
     match kind_of_word(name) {
@@ -120,6 +123,7 @@ fn load_command(count: &str, seed: &str) -> Option<Command>
 
 // The command of three words.
 fn command_of_three(word: &str, one: &str, two: &str) -> Option<Command>
+    requires { is_dashed two.now ≡ false }
     ensures { result ≡ command_of_three word.now one.now two.now }
 {
     if word == "gen" {
@@ -159,9 +163,10 @@ fn records_command(name: &str, size: &str, shown: Shown) -> Option<Command>
 
 // The command of four words.
 fn scan_command(word: &str, name: &str, text: &str, size: &str) -> Option<Command>
+    requires { is_dashed text.now ≡ false }
     ensures { result ≡ scan_command word.now name.now text.now size.now }
 {
-    if word != "scan" || is_dashed(text) {
+    if word != "scan" {
         return None;
     }
     records_command(name, size, Shown::All)
@@ -176,10 +181,12 @@ fn find_command(
     token: &str,
     wanted: &str,
 ) -> Option<Command>
+    requires text { is_dashed text.now ≡ false }
+    requires wanted { is_dashed wanted.now ≡ false }
     ensures { result
         ≡ find_command word.now name.now text.now size.now token.now wanted.now }
 {
-    if word != "find" || is_dashed(text) || is_dashed(wanted) {
+    if word != "find" {
         return None;
     }
     match number_of(token, 1, 1_024) {
@@ -190,6 +197,7 @@ fn find_command(
 
 // The command of a line of words.
 fn command_in(words: &[&str]) -> Option<Command>
+    requires { list_any is_dashed (map (λ word. word.now) words.now) ≡ false }
     ensures { result ≡ command_of (map (λ word. word.now) words.now) }
 {
     match *words {
