@@ -13,7 +13,7 @@ use Rattle.played_runs.specs.declared.ending.End.{End}
 use Rattle.played_runs.specs.declared.ending.Status8.{Status8}
 use Rattle.played_runs.specs.declared.ending.Status8.TheVariants.{Done, ScriptRefused, Usage, Memory, ReadFault, WriteFault, DiskFault, RootNotEmpty, TooLong, Inseparable}
 use Rattle.played_runs.specs.Counts.{HasStood}
-use Rattle.played_runs.specs.Edges.{Edge, before, after, fault_count, IsUntouched, stage, LeavesAll}
+use Rattle.played_runs.specs.Edges.{Edge, before, after, fault_count, IsUntouched, LeavesAll}
 use Rattle.played_runs.specs.Writing.{Reaching, Written, Counting, Standing, Ended, unasked}
 use Rattle.played_runs.proofs.CountSteps.{on-same, other-stood, stood-on, untouched-on, untouched-stood}
 use Rattle.played_runs.proofs.WritingSteps.{written-as}

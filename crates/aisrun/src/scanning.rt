@@ -1,5 +1,7 @@
 //! The commands `scan` and `find`: the records of a file, with the texts of an expression's tokens.
-ghost use Rattle.std.specs.Prelude.{◌≤◌, List, ℕ, length, IfOk};
+ghost use Rattle.std.specs.Prelude.{◌≡◌, ◌≤◌, List, ℕ, length, IfOk};
+ghost use Rattle.format_expr.specs.declared.fault.ExprFault.{ExprFault};
+ghost use Rattle.format_expr.specs.Faults.{IsFault};
 ghost use Rattle.record_scan.specs.Separable.{IsSeparable};
 ghost use Rattle.scan_lines.specs.Lines.{rest_line};
 ghost use Rattle.scan_lines.specs.Telling.{TellsFront};
@@ -11,7 +13,7 @@ ghost use Rattle.aisrun.specs.ScanSteps.{ExpressionRead, RecordEnds, RecordGives
 use crate::ending::{bad_text, inseparable};
 use crate::input::{INPUT_LIMIT, write_unread};
 use commands::RecordQuery;
-use format_expr::{Expr, check_expr, parse_expr};
+use format_expr::{Expr, ExprAnswer, parse_expr};
 use io_edge::{Sink, Source, read_all, write_all};
 use played_runs::{End, Status8, unwritten, write_text};
 use record_scan::{record_length, separable};
@@ -42,16 +44,17 @@ fn parted(alloc: Global, query: RecordQuery, expr: Expr) -> Result<Expression, A
     }
 }
 
-// The expression that a text without a fault is, where the texts of its tokens can be told apart.
-fn parse_text(alloc: Global, query: RecordQuery, text: &[u8]) -> Result<Expression, AllocError>
-    ensures { IfOk result (ExpressionRead query text.now) }
+// The end of a run that is given a text with this fault. `Err` where memory ran out, here or before.
+fn refused(alloc: Global, query: RecordQuery, answer: ExprAnswer) -> Result<Expression, AllocError>
+    ensures { (text : List ℕ) → ((fault : ExprFault) → answer ≡ ExprAnswer.Bad fault
+        → IsFault query.kind text fault) → IfOk result (ExpressionRead query text) }
 {
-    match parse_expr(alloc, query.kind, text) {
-        Ok(expr) => {
-            let read = parted(alloc, query, expr)?;
-            Ok(read)
+    match answer {
+        ExprAnswer::Memory => Err(AllocError),
+        ExprAnswer::Bad { fault } => {
+            let end = bad_text(alloc, fault)?;
+            Ok(Expression::Refused(end))
         }
-        Err(_) => Err(AllocError),
     }
 }
 
@@ -59,12 +62,12 @@ fn parse_text(alloc: Global, query: RecordQuery, text: &[u8]) -> Result<Expressi
 fn read_text(alloc: Global, query: RecordQuery, text: &[u8]) -> Result<Expression, AllocError>
     ensures { IfOk result (ExpressionRead query text.now) }
 {
-    match check_expr(query.kind, text) {
-        Ok(()) => parse_text(alloc, query, text),
-        Err(fault) => {
-            let end = bad_text(alloc, fault)?;
-            Ok(Expression::Refused(end))
+    match parse_expr(alloc, query.kind, text) {
+        Ok(expr) => {
+            let read = parted(alloc, query, expr)?;
+            Ok(read)
         }
+        Err(answer) => refused(alloc, query, answer),
     }
 }
 

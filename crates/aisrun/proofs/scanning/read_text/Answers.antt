@@ -1,8 +1,10 @@
-use Rattle.std.proofs.Common.{refl}
-use Rattle.aisrun.specs.ScanSteps.{NotSpelled}
+use Rattle.std.proofs.Common.{Err, ap}
 use Rattle.aisrun.proofs.scanning.read_text.Goals as goal
 
-pub returns-in_ok-end-in-Err : goal.returns-in_ok-end-in-Err
-returns-in_ok-end-in-Err c =
-    let end = c.in_ok-end-in-Err.ensures in
-    NotSpelled end.status (record { fault = c.in-Err.fault; found = (c.in-Err.ensures.refused c.in-Err.fault).0 refl; shown = end.text })
+pub returns-in_ok-read-in-Ok : goal.returns-in_ok-read-in-Ok
+returns-in_ok-read-in-Ok c =
+    let pieces = c.in-Ok.ensures in
+    c.in_ok-read-in-Ok.ensures c.args.text.now (record { spelled = pieces.pieces; faultless = λ fault found. let bad = (pieces.bad fault).1 found in cc })
+
+pub returns-in-Err : goal.returns-in-Err
+returns-in-Err c = c.refused.ensures c.args.text.now (λ fault is. (c.in-Err.ensures.bad fault).0 (ap Err is))
