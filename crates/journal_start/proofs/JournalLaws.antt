@@ -1,5 +1,5 @@
 -- How long what is put behind the gate is.
-use Rattle.std.proofs.Common.{◌≡◌, ℕ, ◌+◌, ◌*◌, ◌<◌, ◌≤◌, ◌^◌, List, [], ◌∷◌, length, ap, ◌∙◌, arith, length-append}
+use Rattle.std.proofs.Common.{◌≡◌, ℕ, ◌+◌, List, [], ◌∷◌, length, ap, ◌∙◌, arith, length-append}
 use Rattle.wire.specs.declared.message.Message.{Message}
 use Rattle.wire.specs.MessageSpelling.{message_text}
 use Rattle.journal_frames.specs.Frames.{behind_gate, body_of}
@@ -14,7 +14,3 @@ long-is text =
 
 pub spelled-long : (message : Message) (bytes : List ℕ) → Spelled message bytes → length bytes ≡ 5 + length (message_text message)
 spelled-long message bytes spelled = ap length spelled.is ∙ long-is (message_text message)
-
--- one text more keeps within bounds
-pub within-bounds : (end number size : ℕ) → number ≤ 4000000000 → end ≤ (number + 1) * 4294967299 → size ≤ 4294967294 → (end + (5 + size) < 2 ^ 64) × (end + (5 + size) ≤ (number + 1 + 1) * 4294967299)
-within-bounds end number size few bound short = (omega (arith, few, bound, short), omega (arith, few, bound, short))

@@ -1,5 +1,5 @@
 -- Words of public clauses: a journal that is made, and one that a message joins.
-use Rattle.std.specs.Prelude.{◌≡◌, ◌⊎◌, ◌≤◌, ◌+◌, ◌*◌, ℕ, List, length, Option, Result, IsErrOf}
+use Rattle.std.specs.Prelude.{◌≡◌, ◌⊎◌, ◌+◌, ℕ, List, length, Option, Result, IsErrOf}
 use Rattle.disk_model.specs.Disk.{Files}
 use Rattle.disk_model.specs.DeviceCalls.{DeviceCall, Performs}
 use Rattle.disk_model.specs.declared.answers.DiskAnswer.{DiskAnswer}
@@ -14,12 +14,11 @@ use Rattle.journal_start.specs.declared.journal.Journal.{Journal}
 abbrev pub made_of : List ℕ → Journal
 made_of text = record { end = 5 + length text; number = 0 }
 
-abbrev pub pushed : List ℕ → Journal → Journal
-pushed text journal = record { end = journal.end + (5 + length text); number = journal.number + 1 }
+abbrev pub longer_by : ℕ → Journal → Journal
+longer_by size journal = record { end = journal.end + size; number = journal.number + 1 }
 
--- each of the texts has at most 4,294,967,294 bytes
-abbrev pub IsBounded : Journal → Type 0
-IsBounded journal = journal.end ≤ (journal.number + 1) * 4294967299
+abbrev pub pushed : List ℕ → Journal → Journal
+pushed text journal = longer_by (5 + length text) journal
 
 -- the calls were made, or memory ran out before the first
 abbrev pub PerformsOrLacks : {T : Type 0} → List DeviceCall → Result T DiskAnswer → Option Files → Option Files → Tally → Tally → Type 0

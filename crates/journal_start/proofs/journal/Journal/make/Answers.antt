@@ -10,5 +10,4 @@ returns-in-Ok-make_file-clause-made g c =
     let long = spelled-long c.args.snapshot.now c.in-Ok.behind.items spelled in
     let size = c.len.ensures in
     let same : c.len.result ≡ 5 + length (message_text c.args.snapshot.now) = omega (arith, long, size) in
-    let short = spelled.short in
-    (ap (λ (n : ℕ). let made : Journal = record { end = n; number = 0 } in made) same, omega (arith, long, size, short), (spelled.fits, spelled.short))
+    (ap (λ (n : ℕ). let made : Journal = record { end = n; number = 0 } in made) same, (spelled.fits, spelled.short))
