@@ -1,0 +1,10 @@
+pub mod OwnRules
+pub mod Apart
+pub mod Masked
+pub mod Early
+pub mod Begins
+pub mod Judging
+pub mod Masking
+pub mod Weaving
+pub mod OwnWriting
+pub mod Shared
