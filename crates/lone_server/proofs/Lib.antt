@@ -1,0 +1,3 @@
+pub mod RoseSteps
+pub mod JoinSteps
+pub mod BackSteps

@@ -1,0 +1,24 @@
+use Rattle.std.proofs.Common.{List, refl, ap, subst, sym, ◌∙◌}
+use Rattle.wire.specs.declared.message.Message.{Message}
+use Rattle.lone_server.specs.Working.{CanHearAll}
+use Rattle.lone_server.proofs.working.hear_back.Goals as goal
+
+pub confirm-requires : goal.confirm-requires
+confirm-requires c = (subst (λ (messages : List Message). CanHearAll c.args.servers.now.node messages) c.in-Some.ensures c.requires).0
+
+pub returns-in-None : goal.returns-in-None
+returns-in-None c =
+    let none = c.in-None.ensures in
+    (none.0, ap (λ (back : List Message). record c.args.servers.now { back = back }) (none.1 ∙ sym none.0))
+
+pub returns-in-Ok : goal.returns-in-Ok
+returns-in-Ok c = record {
+  message = c.in-Some.message;
+  rest = c.take_first.new.list;
+  first = c.in-Some.ensures;
+  back = refl;
+  link = refl;
+  journal = refl;
+  armed = refl;
+  confirmed = c.in-Ok.ensures;
+}

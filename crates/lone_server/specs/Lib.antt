@@ -1,0 +1,5 @@
+pub mod Falls
+pub mod Appends
+pub mod Joining
+pub mod Restarting
+pub mod Working

@@ -1,0 +1,89 @@
+//! An entry that joins the journal.
+ghost use Rattle.std.specs.Prelude.{◌≡◌, ◌⊎◌, [], ◌∷◌, IfOk, OnOk, OnErr};
+ghost use Rattle.std.specs.List.{AllByRecursion};
+ghost use Rattle.ais_values.specs.Causes.{RoseExactlyOn};
+ghost use Rattle.disk_model.specs.declared.answers.DiskAnswer.{DiskAnswer};
+ghost use Rattle.wire.specs.MessageSpelling.{MessageInRange};
+ghost use Rattle.lone_server.specs.Appends.{confirmed_by, entry_in, AppendsCalls, AppendsFirst, FirstCanJoin, LosesFirst};
+
+use crate::Lone;
+use ais_values::Seq;
+use calls::Entry;
+use disk_model::{DiskAnswer, SharedDisk};
+use lead_server::{send_all, take_first};
+use std::alloc::{AllocError, Global};
+use std::mem;
+use wire::Message;
+
+/// The number and the entry that a message brings, if it mirrors one.
+pub fn mirrored(message: Message) -> Option<(u64, Entry)>
+    ensures { result ≡ entry_in message }
+{
+    match message {
+        Message::Mirror { number, entry } => Some((number, entry)),
+        other => {
+            mem::drop(other);
+            None
+        }
+    }
+}
+
+/// Appends the first message on the way to the journal, if there is one, and answers with it: it is in the journal then.
+///
+/// The four calls of an append are made in order, up to the first that is not done, and no others; or none, where memory runs out before.
+/// The disk is asked only for a message that can stand in the journal. `Failed` comes exactly where the journal's disk had a fault, and
+/// `Stopped` exactly where it stopped; after either the message is in the journal or it is not, and only a cold start goes on. On every error
+/// the message is no longer on the way.
+pub fn append_first<J: SharedDisk>(
+    alloc: Global,
+    servers: &mut Lone,
+    beside: &mut J,
+) -> Result<Option<Message>, DiskAnswer>
+    requires { AllByRecursion MessageInRange servers.old.link }
+    ensures ok { IfOk result (λ found. AppendsFirst found servers.old servers.new) }
+    ensures err { OnErr result (LosesFirst servers.old servers.new) }
+    ensures calls { AppendsCalls servers.old.link servers.old.journal.end result
+        (J.seen beside.old) (J.seen beside.new) }
+    ensures joins { (J.seen beside.new ≡ J.seen beside.old) ⊎ FirstCanJoin servers.old.link }
+    ensures cause { RoseExactlyOn (J.seen beside.old).faults (J.seen beside.new).faults result
+        DiskAnswer.Failed }
+    ensures stop { RoseExactlyOn (J.seen beside.old).stops (J.seen beside.new).stops result
+        DiskAnswer.Stopped }
+{
+    let message = match take_first(alloc, &mut servers.link) {
+        Some(message) => message,
+        None => return Ok(None),
+    };
+    match servers.journal.append(alloc, beside, &message) {
+        Ok(()) => Ok(Some(message)),
+        Err(answer) => {
+            mem::drop(message);
+            Err(answer)
+        }
+    }
+}
+
+/// A list of one message.
+fn one(alloc: Global, message: Message) -> Result<Seq<Message>, AllocError>
+    ensures { IfOk result (λ messages. messages ≡ message ∷ []) }
+{
+    let mut messages = match Vec::with_capacity(alloc, 1) {
+        Ok(messages) => messages,
+        Err(error) => {
+            mem::drop(message);
+            return Err(error);
+        }
+    };
+    messages.push_reserved(message);
+    Ok(Seq::from_vec(messages))
+}
+
+/// That the entry of this number is in the journal is on the way back.
+pub fn put_back(alloc: Global, servers: &mut Lone, number: u64) -> Result<(), AllocError>
+    ensures { OnOk result (servers.new ≡ confirmed_by number servers.old) }
+{
+    match one(alloc, Message::MirrorAck { number }) {
+        Ok(messages) => send_all(alloc, &mut servers.back, messages),
+        Err(error) => Err(error),
+    }
+}
