@@ -10,4 +10,6 @@ mod event_text_tests;
 #[cfg(test)]
 mod script_tests;
 #[cfg(test)]
+mod trio_lines_tests;
+#[cfg(test)]
 mod wire_tests;
