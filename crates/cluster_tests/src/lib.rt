@@ -2,6 +2,8 @@
 #![tactic(auto)]
 
 #[cfg(test)]
+mod exchange_tests;
+#[cfg(test)]
 mod lines_tests;
 #[cfg(test)]
 mod mirror_tests;

@@ -56,7 +56,7 @@ pub(crate) fn default_wells(rt: &impl Abort, alloc: Global) -> Seq<StreamAttrs>
 }
 
 /// A service that nobody has used.
-fn service(rt: &impl Abort, alloc: Global) -> Service {
+pub(crate) fn service(rt: &impl Abort, alloc: Global) -> Service {
     let wells = default_wells(rt, alloc);
     let (service, deeds) = Service::new(alloc, START, 4, wells).expect(rt, "memory");
     drop(deeds);
