@@ -49,12 +49,12 @@ stands setup start queue callbacks wells saved begins is held unarmed =
       so = tt;
     }
 
-pub returns-in-Ok-start : goal.returns-in-Ok-start
-returns-in-Ok-start g c =
+pub returns-in-Ok : goal.returns-in-Ok
+returns-in-Ok g c =
     let setup = c.requires.begins.0 in
     let held = g.D.SharedDisk.seen c.args._disk.now in
     let is : to_z w64 (of_z w64 c.args.start) ≡ c.args.start = search rules in
-    let made = subst (λ time. c.cluster_of.result ≡ cluster_of c.in-Ok-start.active time c.args.callbacks) is c.cluster_of.ensures in
-    let whole = made ∙ ap (λ active. cluster_of active c.args.start c.args.callbacks) c.in-Ok-start.ensures in
+    let made = subst (λ time. c.cluster_of.result ≡ cluster_of c.start-active.result time c.args.callbacks) is c.cluster_of.ensures in
+    let whole = made ∙ ap (λ active. cluster_of active c.args.start c.args.callbacks) c.start-active.ensures in
     let begun = stands setup c.args.start c.args.queue c.args.callbacks c.args.wells c.in-Ok.service c.requires.begins.1 (c.in-Ok.ensures setup (subst (λ time. BeginsAs setup time c.args.queue c.args.wells) (sym is) c.requires.begins.1)).stands held c.requires.unarmed in
     subst (λ (cluster : Cluster (Group 2)). HasStateOn (group_kit 2) any_state cluster held) (sym whole) begun
