@@ -1,7 +1,8 @@
 use ais_values::{ClassId, Duplicate, Name, Status, StreamKind, Text, UNKNOWN_TIME};
-use format_expr::parse_expr;
+use format_expr::{Expr, parse_expr};
 use record_print::{
-    Header, LogRecord, check_write, is_printable, parts_length, print_record, printed_length,
+    Header, LogRecord, check_write, is_printable, notified_length, parts_length, print_record,
+    printed_length,
 };
 use std::alloc::Global;
 use std::process::Abort;
@@ -268,6 +269,55 @@ fn notified_records(rt: HostRuntime) {
         let rec = notified(&rt, rt.alloc(), T + 13 * HOUR, 0x4001, object);
         let copy = copied(&rt, rt.alloc(), rec);
         let printed = prints(&rt, rt.alloc(), copy, 1, 256, StreamKind::Alarm, expr, want);
+        assert!(rt; printed, "{expr:?}");
+    }
+}
+
+/// How many bytes the record of a notification has with size 0, counted of its names and its body.
+fn counted(expr: &Expr, rec: &LogRecord) -> u32 {
+    match &rec.header {
+        Header::Ntf {
+            object,
+            notifier,
+            ..
+        } => notified_length(expr, object, notifier, &rec.body),
+        Header::Generic { .. } => 0,
+    }
+}
+
+/// Whether a notification's record is printed with size 0 in so many bytes, which were counted before.
+fn notified_freely(
+    rt: &impl Abort,
+    alloc: Global,
+    expr: &[u8],
+    object: &[u8],
+    length: u32,
+) -> bool {
+    let expr = parse_expr(alloc, StreamKind::Alarm, expr).ok();
+    let expr = expr.expect(rt, "parsed");
+    let rec = notified(rt, alloc, T, 0x4001, object);
+    assert!(rt; is_printable(&rec));
+    let line = print_record(alloc, &expr, 1, &rec, 0).expect(rt, "memory");
+    let found = counted(&expr, &rec);
+    let parts = parts_length(&expr, &rec.header, &rec.body);
+    drop(expr);
+    drop(rec);
+    let printed = line.as_slice().len() == length as usize;
+    drop(line);
+    printed && found == length && parts == length
+}
+
+#[test]
+fn notified_records_of_the_sizes_of_their_texts(rt: HostRuntime) {
+    let table: [(&[u8], &[u8], u32); 5] = [
+        (b"@No", b"node1", 6),
+        (b"@Ng @No3", b"node1", 7),
+        (b"@No@No", &[b'n'; 256], 513),
+        (b"@Ni", b"o", 19),
+        (b"@Cr @Ct @Nt @Ne6 @No @Ng \"@Cb\"", b"node1", 71),
+    ];
+    for (expr, object, length) in table {
+        let printed = notified_freely(&rt, rt.alloc(), expr, object, length);
         assert!(rt; printed, "{expr:?}");
     }
 }
