@@ -356,7 +356,7 @@ module _ (n : ℕ) where
           let one = few-standbys state.peers.acting state.peers.seats good.steady.good.names good.steady.good.apart in
           ended-as n setup state old new before after held left good shows
           (λ happened end. EndsLine (group_kit n) group_script (line.Crash state.peers.acting) setup happened state end)
-          (λ happened end. FaultsLine setup (line.Crash state.peers.acting) happened state (counters_of held) (counters_of left)) printed (λ number. 0)
+          (λ happened end. FaultsLine setup (line.Crash state.peers.acting) happened state end.state (counters_of held) (counters_of left)) printed (λ number. 0)
           (record {
             active = refl;
             standby = standby;

@@ -125,9 +125,10 @@ sum-end : (made row : ℕ) → made + (row + 0) ≡ made + row
 sum-end made row = omega arith
 
 -- **the deeds of an entry failed, and there was no standby**
-pub alone-ending : (setup : Setup) (past : List Entry) (entry : Entry) (count : ℕ) (held left : DiskSeen) → AreSome (length (calls_of_all (deeds_of setup past entry))) (suc count) → Spent (suc count) 1 0 (counters_of held) (counters_of left) → Ending (device_by setup (λ number. 0)) past (counters_of held) (counters_of left)
+pub alone-ending : (setup : Setup) (past : List Entry) (entry : Entry) (count : ℕ) (held left : DiskSeen) → AreSome (length (calls_of_all (deeds_of setup past entry))) (suc count) → Spent (suc count) 1 0 (counters_of held) (counters_of left) → Ending (device_by setup (λ number. 0)) past (entry ∷ past) (counters_of held) (counters_of left)
 alone-ending setup past entry count held left some spent = record {
   entry = entry;
+  last = refl;
   went = deals.Failed (suc count);
   row = [];
   fell = refl;
@@ -187,12 +188,13 @@ module _ (setup : Setup) (past : List Entry) (entry : Entry) (armed : Option ℕ
       }
 
   -- **all failed**
-  pub fell-ending : (count : ℕ) → 1 ≤ count → Row calls count false start left → Ending (device_by setup (λ number. ends_with broke count)) past (counters_of held) (counters_of left)
+  pub fell-ending : (count : ℕ) → 1 ≤ count → Row calls count false start left → Ending (device_by setup (λ number. ends_with broke count)) past (entry ∷ past) (counters_of held) (counters_of left)
   fell-ending count some row =
       let went = went_by broke in
       let made = row.made in
       record {
         entry = entry;
+        last = refl;
         went = went;
         row = made;
         fell = ends-are broke;

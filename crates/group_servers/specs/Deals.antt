@@ -117,9 +117,10 @@ IsOver Done row = ⊥
 IsOver (Stopped made) row = 1 ≤ length row
 IsOver (Failed made) row = Unit {0}
 
--- the work of the entry behind this history fell, and the event ended in it
-pub record Ending (device : Device) (past : List Entry) (before after : Counters) : Type 0 where
+-- the work of the entry behind this history fell, and the event ended in it: it is the last one of the history that the event ended with
+pub record Ending (device : Device) (past now : List Entry) (before after : Counters) : Type 0 where
   pub entry : Entry
+  pub last : now ≡ entry ∷ past
   pub went : Went
   pub row : List ℕ
   pub fell : device.fails (suc (length past)) ≡ fell_before went row

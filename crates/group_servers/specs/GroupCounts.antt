@@ -51,20 +51,20 @@ pub record UsesGroup (setup : Setup) (happened : ℕ → ℕ) (old new : List En
   pub dealt : Dealt (device_by setup happened) old new before after
 
 -- the works that were done up to a history, and the one in which the event ended
-pub record EndedIn (device : Device) (old : List Entry) (before after : Counters) : Type 0 where
+pub record EndedIn (device : Device) (old now : List Entry) (before after : Counters) : Type 0 where
   pub past : List Entry
   pub worked : Counters
   pub dealt : Dealt device old past before worked
-  pub ending : Ending device past worked after
+  pub ending : Ending device past now worked after
 
 -- an event ended by a fault: the works that failed before it raised the count up to one between
-pub record FaultsGroup (setup : Setup) (happened : ℕ → ℕ) (old : List Entry) (before after : Counters) : Type 0 where
+pub record FaultsGroup (setup : Setup) (happened : ℕ → ℕ) (old now : List Entry) (before after : Counters) : Type 0 where
   pub between : ℕ
   pub before_it : before.faults ≤ between
   pub caused : IsCaused before.faults between happened
   pub behind_it : between ≤ after.faults
   pub rose : Rose between after.faults
-  pub ended : EndedIn (device_by setup happened) old before after
+  pub ended : EndedIn (device_by setup happened) old now before after
 
 -- memory was wanting behind the works that were done, in whichever works the disk failed
 pub record LacksGroup (setup : Setup) (old : List Entry) (armed : Bool) (before after : Counters) : Type 0 where
@@ -135,9 +135,9 @@ CountsLine (line.Cat name) device held old new before after = CountsShown (line.
 CountsLine _ device held old new before after = Spent 0 0 0 before after
 
 -- and where a fault ends it
-abbrev pub CountsEnd : Line → Device → State Peers → Counters → Counters → Type 0
-CountsEnd (line.Crash server) device state before after = CrashEnded device state before after
-CountsEnd _ device state before after = EndedIn device state.world.core.answered before after
+abbrev pub CountsEnd : Line → Device → (old new : State Peers) → Counters → Counters → Type 0
+CountsEnd (line.Crash server) device old new before after = CrashEnded device old before after
+CountsEnd _ device old new before after = EndedIn device old.world.core.answered new.world.core.answered before after
 
 -- the same of a line
 pub record UsesLine (setup : Setup) (next : Line) (happened : ℕ → ℕ) (state : State Peers) (outcome : Outcome (State Peers)) (held : Option Files)
@@ -147,13 +147,13 @@ pub record UsesLine (setup : Setup) (next : Line) (happened : ℕ → ℕ) (stat
   pub felled : FellIn (count_seats is_standby state.peers.seats) next before.faults after.faults outcome.told
   pub counts : CountsLine next (device_by setup happened) held state outcome.state before after
 
-pub record FaultsLine (setup : Setup) (next : Line) (happened : ℕ → ℕ) (state : State Peers) (before after : Counters) : Type 0 where
+pub record FaultsLine (setup : Setup) (next : Line) (happened : ℕ → ℕ) (old new : State Peers) (before after : Counters) : Type 0 where
   pub between : ℕ
   pub before_it : before.faults ≤ between
   pub caused : IsCaused before.faults between happened
   pub behind_it : between ≤ after.faults
   pub rose : Rose between after.faults
-  pub ended : CountsEnd next (device_by setup happened) state before after
+  pub ended : CountsEnd next (device_by setup happened) old new before after
 
 -- the count of faults rose
 pub record RisesGroup (held left : DiskSeen) : Type 0 where

@@ -56,7 +56,8 @@ group_kit n = record {
   Fell = λ setup state servers left. FellGroup setup state servers left.tally.armed;
   Uses = λ setup happened state outcome held left.
       UsesGroup setup happened state.world.core.answered outcome.state.world.core.answered outcome.told (counters_of held) (counters_of left);
-  Faults = λ setup happened state end held left. FaultsGroup setup happened state.world.core.answered (counters_of held) (counters_of left);
+  Faults = λ setup happened state end held left.
+      FaultsGroup setup happened state.world.core.answered end.state.world.core.answered (counters_of held) (counters_of left);
   Lacks = λ setup state servers held left. LacksGroup setup state.world.core.answered servers.armed (counters_of held) (counters_of left);
   Outlives = λ held left. held.faults ≤ left.faults;
   Rises = RisesGroup;
@@ -72,5 +73,5 @@ group_script = record {
   Allows = λ line. Unit {0};
   Uses = λ next setup happened state outcome held left.
       UsesLine setup next happened state outcome held.files (counters_of held) (counters_of left);
-  Faults = λ next setup happened state end held left. FaultsLine setup next happened state (counters_of held) (counters_of left);
+  Faults = λ next setup happened state end held left. FaultsLine setup next happened state end.state (counters_of held) (counters_of left);
 }

@@ -209,7 +209,7 @@ group_laws n = record {
   used_printed = λ setup happened state outcome held left uses.
       uses-printed setup happened state.world.core.answered outcome.state.world.core.answered outcome.told (counters_of held) (counters_of left) uses;
   faults_behind = λ setup one two state first end held told left before after.
-      faults-behind setup one two state.world.core.answered first.state.world.core.answered first.told
+      faults-behind setup one two state.world.core.answered first.state.world.core.answered end.state.world.core.answered first.told
       (counters_of held) (counters_of told) (counters_of left) before after;
   lacks_same = λ setup state servers seen.
       lacks-quiet setup state.world.core.answered servers.armed 0 (counters_of seen) (counters_of seen) refl refl refl;

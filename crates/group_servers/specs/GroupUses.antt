@@ -140,8 +140,9 @@ module _ (setup : Setup) (one two : ℕ → ℕ) (old middle : List Entry) (held
       agrees-second (length middle) (length middle) (suc (length past)) one two both (le_refl (length middle)) (λ number above within. refl)
       (suc (length past)) (omega arith) (le_refl (suc (length past)))
 
-  ended-both : (left : Counters) → EndedIn (device_by setup two) middle between left → EndedIn (device_by setup both) old held left
-  ended-both left after =
+  ended-both : (now : List Entry) (left : Counters) → EndedIn (device_by setup two) middle now between left
+      → EndedIn (device_by setup both) old now held left
+  ended-both now left after =
       let ending = after.ending in
       record {
         past = after.past;
@@ -149,6 +150,7 @@ module _ (setup : Setup) (one two : ℕ → ℕ) (old middle : List Entry) (held
         dealt = dealt-both after.past after.worked after.dealt;
         ending = record {
           entry = ending.entry;
+          last = ending.last;
           went = ending.went;
           row = ending.row;
           fell = behind-is after.past (deals-grow after.dealt.are) ∙ ending.fell;
@@ -219,16 +221,16 @@ uses-printed setup happened old new told held left uses = record {
   dealt = uses.dealt;
 }
 
-pub faults-behind : (setup : Setup) (one two : ℕ → ℕ) (old middle : List Entry) (first : List Told) (held between left : Counters)
-    → UsesGroup setup one old middle first held between → FaultsGroup setup two middle between left
-    → FaultsGroup setup (spliced (length middle) one two) old held left
-faults-behind setup one two old middle first held between left before after = record {
+pub faults-behind : (setup : Setup) (one two : ℕ → ℕ) (old middle now : List Entry) (first : List Told) (held between left : Counters)
+    → UsesGroup setup one old middle first held between → FaultsGroup setup two middle now between left
+    → FaultsGroup setup (spliced (length middle) one two) old now held left
+faults-behind setup one two old middle now first held between left before after = record {
   between = after.between;
   before_it = le_trans before.later after.before_it;
   caused = caused-both held.faults between.faults after.between (length middle) one two before.later after.before_it before.caused after.caused;
   behind_it = after.behind_it;
   rose = after.rose;
-  ended = ended-both setup one two old middle held between before.dealt left after.ended;
+  ended = ended-both setup one two old middle held between before.dealt now left after.ended;
 }
 
 -- Want of memory.
