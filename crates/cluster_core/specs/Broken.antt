@@ -45,7 +45,7 @@ pub record EventEnded (setup : Setup) (state : State Peers) (next : Line) (told 
   pub caused : IsCaused held.faults between happened
   pub behind_it : between ≤ left.faults
   pub rose : Rose between left.faults
-  pub ended : CountsEnd next (device_by setup happened) state (counters_of held) (counters_of left)
+  pub ended : CountsEnd next (device_by setup happened) state end.state (counters_of held) (counters_of left)
   pub good : IsGood setup end.state
   pub shows : ShowsEnd setup end.state left.tally.armed world
   pub files : TellsFiles setup state held.files → LeavesBetween setup (committed end.state.world.core) held.files left.files
