@@ -23,7 +23,7 @@ use Rattle.cluster_rounds.specs.Kits.{IsKit, Kit, device_by}
 use Rattle.cluster_rounds.specs.Scripts.{Script}
 use Rattle.cluster_rounds.specs.Worlds.{HasStateOn, IsGood, Shows, any_state}
 use Rattle.cluster_rounds.specs.Broken.{Broken, BreaksAlone}
-use Rattle.cluster_rounds.proofs.BrokenSteps.{left-between, whole-broken}
+use Rattle.cluster_rounds.proofs.BrokenSteps.{broken-ends, left-between, shown-ends, whole-broken}
 use Rattle.cluster_rounds.proofs.UnaskedSteps.{unasked-same}
 use Rattle.cluster_rounds.specs.Rounds.{EndsSettle}
 use Rattle.cluster_rounds.specs.Came.{ComesOff, Ended}
@@ -81,7 +81,11 @@ module _ {Peers Group : Type 0} (kit : Kit Peers Group) (laws : IsKit kit) (scri
   ends-broken (Ok x) (Err f) next old new before after held same breaks = elim same [ ]
   ends-broken (Err e) (Ok y) next old new before after held same breaks = elim same [ ]
   ends-broken (Err e) (Err f) next old new before after held same breaks =
-      subst (λ answer. (BreaksOff kit script) answer next old new before after held held) (sym same) (λ setup state good shows count. (breaks held setup state good shows, laws.lacks_same setup state new.servers held))
+      let off : (BreaksOff kit script) Memory next old new before after held held = λ setup state good shows count.
+      let broken = breaks held setup state good shows in
+      (broken, laws.lacks_same setup state new.history.entries new.servers held ((broken-ends kit laws) setup state held held new broken))
+      in
+      subst (λ answer. (BreaksOff kit script) answer next old new before after held held) (sym same) off
 
   -- **an event that ended is its line's end, with its lines on messages without effect left out**
   pub ended-line : (next : Line) (Ends : Setup → EndBy Peers) (setup : Setup) (state : State Peers) (new : Cluster Group) (before after : List (List ℕ)) (held left : kit.Seen) → ((fails : ℕ → ℕ) (end : Outcome (State Peers)) → Ends setup fails state end → (EndsLine kit script) next setup fails state (record { state = end.state; told = without is_ignored end.told })) → ((happened : ℕ → ℕ) (end : Outcome (State Peers)) → kit.Faults setup happened state end held left → script.Faults next setup happened state (record { state = end.state; told = without is_ignored end.told }) held left) → (Ended kit) setup state (Ends setup) new before after held left → (LineEnded kit script) setup state next new before after held left
@@ -111,11 +115,11 @@ module _ {Peers Group : Type 0} (kit : Kit Peers Group) (laws : IsKit kit) (scri
       (λ fails end ends. follows.settles (plain_of setup) (device_by setup fails) state end (shared setup state good shows) ends) (λ happened end faults. follows.settle_faults setup happened state end held left faults) (off setup state good shows count tt)
 
   -- files were to be shown
-  read-lacks : (one two beside : DiskSeen) → IsRead one two → two.faults ≡ one.faults → (setup : Setup) (state : State Peers) (world : Cluster Group) → (IsGood kit) setup state → (Shows kit) setup state world → (Broken kit) setup state (kit.see one beside) (kit.see two beside) world × kit.Lacks setup state world.servers (kit.see one beside) (kit.see two beside)
+  read-lacks : (one two beside : DiskSeen) → IsRead one two → two.faults ≡ one.faults → (setup : Setup) (state : State Peers) (world : Cluster Group) → (IsGood kit) setup state → (Shows kit) setup state world → (Broken kit) setup state (kit.see one beside) (kit.see two beside) world × kit.Lacks setup state world.history.entries world.servers (kit.see one beside) (kit.see two beside)
   read-lacks one two beside read faults setup state world good shows =
       let nothing = unasked-same (plain_of setup) state.world in
       let left : kit.Tells setup state (kit.see one beside) → kit.Between setup (committed state.world.core) (kit.see one beside) (kit.see two beside) = λ tells. (left-between kit laws) setup state (kit.see one beside) (kit.see two beside) good (laws.read_left setup state one two beside read tells) in
-      ((whole-broken kit laws) setup state state [] (kit.see one beside) (kit.see two beside) world good.steady.sound nothing shows.net shows.agents shows.history shows.now left, laws.read_lacks setup state world.servers one two beside read faults)
+      ((whole-broken kit laws) setup state state [] (kit.see one beside) (kit.see two beside) world good.steady.sound nothing shows.net shows.agents shows.history shows.now left, laws.read_lacks setup state world.history.entries world.servers one two beside ((shown-ends kit laws) setup state world shows) read faults)
 
   pub show-broken : {T : Type 0} (r : Result T DiskAnswer) (next : Line) (old : Cluster Group) (before after : List (List ℕ)) (one two beside : DiskSeen) → (FaultLeaves kit script) next old old before before (kit.see one beside) (kit.see two beside) → IsRead one two → RoseExactlyOn one.faults two.faults r Failed → (IsErrOf r Failed → after ≡ before) → (IsErrOf r Stopped → ⊥) → IfErr r (λ answer. (BreaksOff kit script) answer next old old before after (kit.see one beside) (kit.see two beside))
   show-broken (Ok x) next old before after one two beside leaves read cause stays never = tt

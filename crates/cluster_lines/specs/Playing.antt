@@ -92,7 +92,7 @@ module _ {Peers Group : Type 0} (kit : Kit Peers Group) (script : Script Peers k
   abbrev pub BreaksOff : DiskAnswer → Line → Cluster Group → Cluster Group → List (List ℕ) → List (List ℕ) → kit.Seen → kit.Seen → Type 0
   BreaksOff Memory next old new before after held left =
       (setup : Setup) (state : State Peers) → IsGood kit setup state → Shows kit setup state old → kit.Armed state.peers held
-      → Broken kit setup state held left new × kit.Lacks setup state new.servers held left
+      → Broken kit setup state held left new × kit.Lacks setup state new.history.entries new.servers held left
   BreaksOff Failed next old new before after held left = FaultLeaves next old new before after held left
   BreaksOff Stopped next old new before after held left =
       (setup : Setup) (state : State Peers) → IsGood kit setup state → Shows kit setup state old → kit.Armed state.peers held → ⊥

@@ -18,14 +18,15 @@ use Rattle.cluster_facts.specs.Service.{Plain}
 use Rattle.cluster_facts.specs.Storage.{Attempt, Between, dealt_in}
 use Rattle.cluster_facts.specs.Storage.Attempts.{none as no_attempt, more as one_more}
 use Rattle.cluster_facts.specs.Agents.{fed_of}
-use Rattle.cluster_facts.specs.History.{Core, committed}
+use Rattle.cluster_facts.specs.History.{Core, Hand, Empty, Waiting, Applied, Ready, committed, committed_by}
 use Rattle.cluster_facts.specs.World.{World}
 use Rattle.cluster_facts.specs.Facts.{IsSound}
 use Rattle.cluster_events.specs.Lines.{Told}
 use Rattle.cluster_events.specs.Outcomes.{Outcome, quietly}
 use Rattle.cluster_events.specs.Servers.{State}
-use Rattle.cluster_events.specs.Saying.{entries_told, deals_told, Says}
+use Rattle.cluster_events.specs.Saying.{entries_told, deals_told, seconds, Says}
 use Rattle.cluster_events.specs.Breaking.{Tells, IsFed, Holds}
+use Rattle.cluster_events.proofs.Carrying.{EndsIn-both}
 use Rattle.cluster_events.proofs.Telling.{Says-same}
 use Rattle.cluster_events.proofs.Broken.{Says-tells, Sound-holds, Tells-both}
 use Rattle.client_agent.specs.Seen.{Seen}
@@ -42,7 +43,29 @@ use Rattle.cluster_rounds.specs.Worlds.{IsGood, Shows, TellsFiles}
 use Rattle.cluster_rounds.proofs.TakenSteps.{IsMoved}
 use Rattle.cluster_rounds.proofs.UnaskedSteps.{deals-both, grown-none, timely-both, unasked-same}
 
+-- what is committed ends in what is answered
+pub committed-ends : (past : List Entry) (hand : Hand) → EndsIn (committed_by past hand) past
+committed-ends past Empty = ([], refl)
+committed-ends past (Waiting entry) = ([], refl)
+committed-ends past (Applied entry) = (entry ∷ [], refl)
+committed-ends past (Ready entry) = (entry ∷ [], refl)
+
 module _ {Peers Group : Type 0} (kit : Kit Peers Group) (laws : IsKit kit) where
+  -- The history of the code ends in what was answered, also where an event broke off.
+
+  pub shown-ends : (setup : Setup) (state : State Peers) (world : Cluster Group) → (Shows kit) setup state world → EndsIn world.history.entries state.world.core.answered
+  shown-ends setup state world shows =
+      let past = state.world.core.answered in
+      subst (λ (entries : List Entry). EndsIn entries past) (sym shows.history) (committed-ends past state.world.core.hand)
+
+  pub broken-ends : (setup : Setup) (state : State Peers) (held left : kit.Seen) (world : Cluster Group) → (Broken kit) setup state held left world → EndsIn world.history.entries state.world.core.answered
+  broken-ends setup state held left world broken =
+      let past = state.world.core.answered in
+      let before = committed state.world.core in
+      let grown = broken.tells.entries.grown in
+      let both = EndsIn-both past before (committed broken.rest.core) (committed-ends past state.world.core.hand) (seconds (entries_told broken.unseen), grown) in
+      subst (λ (entries : List Entry). EndsIn entries past) (sym broken.history) both
+
   -- What the disks hold, between.
 
   -- that of a whole state is

@@ -23,7 +23,7 @@ use Rattle.cluster_rounds.specs.PartlyDone.{SaysUnasked}
 use Rattle.cluster_rounds.specs.Rounds.{EndOver, EventOver, Plays}
 use Rattle.cluster_rounds.specs.Worlds.{Event, HasStateOn, IsGood, Shows}
 use Rattle.cluster_rounds.proofs.ArmedSteps.{Keeps}
-use Rattle.cluster_rounds.proofs.BrokenSteps.{files-after, happened-broken}
+use Rattle.cluster_rounds.proofs.BrokenSteps.{broken-ends, files-after, happened-broken}
 use Rattle.cluster_rounds.proofs.RoundSteps.{played-both}
 
 -- a list that ends in another is no shorter
@@ -121,7 +121,9 @@ module _ {Peers Group : Type 0} (kit : Kit Peers Group) (laws : IsKit kit) where
 
   -- an event without a disk lacks memory
   pub alone-off : (P : State Peers → Type 0) (Ends : (EndOver kit)) (old new : Cluster Group) (before after : List (List ℕ)) (disk : kit.Seen) → (BreaksAloneIf kit) P old new → (ComesOff kit) P Ends Memory old new before after disk disk
-  alone-off P Ends old new before after disk breaks setup state good shows counted so = (breaks disk setup state good shows so, laws.lacks_same setup state new.servers disk)
+  alone-off P Ends old new before after disk breaks setup state good shows counted so =
+      let broken = breaks disk setup state good shows so in
+      (broken, laws.lacks_same setup state new.history.entries new.servers disk ((broken-ends kit laws) setup state disk disk new broken))
 
   -- what is played alone, and then memory runs out
   pub plays-lack : (P Q : State Peers → Type 0) (event : (Event kit)) (old middle new : Cluster Group) (before between : List (List ℕ)) (loud : Bool) → Leads P Q event → (Plays kit) P event old middle before between loud → (BreaksAloneIf kit) Q middle new → (BreaksAloneIf kit) P old new
@@ -143,7 +145,7 @@ module _ {Peers Group : Type 0} (kit : Kit Peers Group) (laws : IsKit kit) where
       let came = comes setup state good shows counted so in
       let next = came-leads P Q first setup state middle before between a held told leads good so came in
       let broken = breaks setup came.outcome.state came.played.good came.played.shows came.count next.0 in
-      ((happened-broken kit laws) setup state came.outcome.state came.outcome.told held told left new next.1 came.played.files broken.0, laws.lacks_behind setup came.happened state came.outcome new.servers held told left came.uses broken.1)
+      ((happened-broken kit laws) setup state came.outcome.state came.outcome.told held told left new next.1 came.played.files broken.0, laws.lacks_behind setup came.happened state came.outcome new.history.entries new.servers held told left came.uses broken.1)
 
   ended-after : (P Q : State Peers → Type 0) (Inner Outer : (EndOver kit)) (first : (EventOver kit)) (old middle new : Cluster Group) (before between after : List (List ℕ)) (a : Bool) (held told left : kit.Seen) → EndsBy P first Inner Outer → LeadsBy P Q first → (Comes kit) P first old middle before between a held told → (ComesOff kit) Q Inner Failed middle new between after told left → (ComesOff kit) P Outer Failed old new before after held left
   ended-after P Q Inner Outer first old middle new before between after a held told left stops leads comes ends setup state good shows counted so =

@@ -9,7 +9,7 @@ use Rattle.plain_service.specs.Setups.{Setup, CanBegin}
 use Rattle.plain_service.specs.Storing.{deeds_of}
 use Rattle.service_laws.specs.PlainOf.{plain_of}
 use Rattle.cluster_facts.specs.Types.{Entry, Message}
-use Rattle.cluster_facts.specs.Lists.{Stands, without}
+use Rattle.cluster_facts.specs.Lists.{EndsIn, Stands, without}
 use Rattle.cluster_facts.specs.Service.{Plain, IsPlain}
 use Rattle.cluster_facts.specs.History.{Hand, Empty, accepted, committed}
 use Rattle.cluster_facts.specs.Ranges.{AreInRange}
@@ -50,10 +50,10 @@ pub record Kit (P S : Type 0) : Type 1 where
   pub EndsAt : DiskAnswer → Plain → Device → EndAt P
   pub Fell : Setup → State P → S → Seen → Type 0
   -- what the disks counted as an event came from a state to an outcome, by the works that failed; as it ended there by a fault; and as
-  -- memory was wanting, with what servers of the code are then
+  -- memory was wanting, with the history and the servers of the code as they are then
   pub Uses : Setup → (ℕ → ℕ) → State P → Outcome (State P) → Seen → Seen → Type 0
   pub Faults : Setup → (ℕ → ℕ) → State P → Outcome (State P) → Seen → Seen → Type 0
-  pub Lacks : Setup → State P → S → Seen → Seen → Type 0
+  pub Lacks : Setup → State P → List Entry → S → Seen → Seen → Type 0
   -- how the disks' counts may go on any disks where an event is done, and where one ends by a fault
   pub Outlives : Seen → Seen → Type 0
   pub Rises : Seen → Seen → Type 0
@@ -100,8 +100,9 @@ pub record IsKit {P S : Type 0} (kit : Kit P S) : Type 0 where
   pub read_armed : (peers : P) (one two beside : DiskSeen) → IsRead one two → kit.Armed peers (kit.see one beside) → kit.Armed peers (kit.see two beside)
   pub read_left : (setup : Setup) (state : State P) (one two beside : DiskSeen) → IsRead one two
       → kit.Tells setup state (kit.see one beside) → kit.Leaves setup state (kit.see one beside) (kit.see two beside)
-  pub read_lacks : (setup : Setup) (state : State P) (servers : S) (one two beside : DiskSeen) → IsRead one two → two.faults ≡ one.faults
-      → kit.Lacks setup state servers (kit.see one beside) (kit.see two beside)
+  pub read_lacks : (setup : Setup) (state : State P) (entries : List Entry) (servers : S) (one two beside : DiskSeen)
+      → EndsIn entries state.world.core.answered → IsRead one two → two.faults ≡ one.faults
+      → kit.Lacks setup state entries servers (kit.see one beside) (kit.see two beside)
   pub read_outlives : (one two beside : DiskSeen) → IsRead one two → two.faults ≡ one.faults → kit.Outlives (kit.see one beside) (kit.see two beside)
   pub read_rises : (one two beside : DiskSeen) → IsRead one two → one.faults ≤ two.faults → Rose one.faults two.faults
       → kit.Rises (kit.see one beside) (kit.see two beside)
@@ -119,9 +120,12 @@ pub record IsKit {P S : Type 0} (kit : Kit P S) : Type 0 where
   pub faults_behind : (setup : Setup) (one two : ℕ → ℕ) (state : State P) (first end : Outcome (State P)) (held told left : kit.Seen)
       → kit.Uses setup one state first held told → kit.Faults setup two first.state end told left
       → kit.Faults setup (spliced (answered_in first.state) one two) state (behind first end) held left
-  pub lacks_same : (setup : Setup) (state : State P) (servers : S) (seen : kit.Seen) → kit.Lacks setup state servers seen seen
-  pub lacks_behind : (setup : Setup) (happened : ℕ → ℕ) (state : State P) (first : Outcome (State P)) (servers : S) (held told left : kit.Seen)
-      → kit.Uses setup happened state first held told → kit.Lacks setup first.state servers told left → kit.Lacks setup state servers held left
+  pub lacks_same : (setup : Setup) (state : State P) (entries : List Entry) (servers : S) (seen : kit.Seen)
+      → EndsIn entries state.world.core.answered → kit.Lacks setup state entries servers seen seen
+  pub lacks_behind : (setup : Setup) (happened : ℕ → ℕ) (state : State P) (first : Outcome (State P)) (entries : List Entry) (servers : S)
+      (held told left : kit.Seen)
+      → kit.Uses setup happened state first held told → kit.Lacks setup first.state entries servers told left
+      → kit.Lacks setup state entries servers held left
   -- on any disks the counts may stand, and go on
   pub stands : (seen : kit.Seen) → kit.Outlives seen seen
   pub further : (one two three : kit.Seen) → kit.Outlives one two → kit.Outlives two three → kit.Outlives one three

@@ -14,6 +14,7 @@ use Rattle.script_lines.specs.declared.line.Server.{Server}
 use Rattle.plain_service.specs.Setups.{Setup}
 use Rattle.plain_service.specs.Legal.{IsHistory}
 use Rattle.cluster_facts.specs.Types.{Entry}
+use Rattle.cluster_facts.specs.Lists.{EndsIn}
 use Rattle.cluster_facts.specs.History.{Hand, Empty, Waiting, Applied, Ready, committed_by}
 use Rattle.cluster_events.specs.Outcomes.{Outcome}
 use Rattle.cluster_events.specs.Servers.{State}
@@ -35,7 +36,7 @@ use Rattle.cluster_rounds.specs.declared.cluster.Cluster.{Cluster}
 use Rattle.cluster_rounds.specs.Broken.{Broken, LeavesBetween}
 use Rattle.cluster_rounds.specs.Kits.{device_by}
 use Rattle.cluster_rounds.specs.Worlds.{Shows, IsGood, Happened, TellsFiles, LeavesFiles}
-use Rattle.cluster_rounds.proofs.BrokenSteps.{whole-broken}
+use Rattle.cluster_rounds.proofs.BrokenSteps.{committed-ends, whole-broken}
 use Rattle.cluster_rounds.proofs.FilesSteps.{left-between}
 use Rattle.cluster_rounds.specs.Seen.{counters_of}
 use Rattle.cluster_lines.specs.Own.{DoesOn}
@@ -311,13 +312,13 @@ module _ (n : ℕ) where
             took-files n setup state good (fell mid.servers) new.servers fresh prepared.front after held left seats-are fresh-so acting-is refl took (λ number. 0) held.files standby (rest-goes-on setup state held.files told)
 
       -- **memory was wanting**: what was committed stays so, and none failed before
-      crash-partly : FellPartly fresh mid.servers.seats new.servers.armed held left → (Broken (group_kit n)) setup state held left new × LacksGroup setup past new.servers.armed (counters_of held) (counters_of left)
+      crash-partly : FellPartly fresh mid.servers.seats new.servers.armed held left → (Broken (group_kit n)) setup state held left new × LacksGroup setup past new.history.entries new.servers.armed (counters_of held) (counters_of left)
       crash-partly partly = (
         (whole-broken (group_kit n) (group_laws n)) setup state over.state over.told held left new (over-state setup state n good (λ number. 0)).steady.sound (over-says setup state n good (λ number. 0))
             (subst (λ m. AreSpelled state.world.net m) (sym net-is) shows.net)
             (subst (λ a. ShowsAgents over.state.world a) (sym agents-are) (agents-as state.world over.state.world old.agents refl refl refl shows.agents))
             entries-are (now-is ∙ shows.now) (λ told. files-so told partly.part),
-        lacks-quiet setup past new.servers.armed (made-so partly.part).0 (counters_of held) (counters_of left) ((made-so partly.part).1 ∙ ap (λ (t : Tally). many_more (made-so partly.part).0 t.changing) partly.started.tally) ((quiet-so partly.part).0 ∙ partly.started.faults) ((quiet-so partly.part).1 ∙ partly.started.stops),
+        lacks-quiet setup past new.history.entries new.servers.armed (made-so partly.part).0 (counters_of held) (counters_of left) (subst (λ (entries : List Entry). EndsIn entries past) (sym entries-are) (committed-ends past (caught_hand catching_so hand))) ((made-so partly.part).1 ∙ ap (λ (t : Tally). many_more (made-so partly.part).0 t.changing) partly.started.tally) ((quiet-so partly.part).0 ∙ partly.started.faults) ((quiet-so partly.part).1 ∙ partly.started.stops),
       ) where
         T : List Seat → Type 0
         T seats = TriesPartly fresh seats partly.start left

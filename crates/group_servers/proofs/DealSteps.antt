@@ -11,6 +11,7 @@ use Rattle.stream_layout.specs.Deeds.{calls_of_all}
 use Rattle.plain_service.specs.Setups.{Setup}
 use Rattle.plain_service.specs.Storing.{deeds_of}
 use Rattle.cluster_facts.specs.Types.{Entry}
+use Rattle.cluster_facts.specs.Lists.{EndsIn}
 use Rattle.cluster_events.specs.Devices.{IsCaused}
 use Rattle.cluster_rounds.specs.Kits.{device_by}
 use Rattle.cluster_rounds.specs.Seen.{counters_of}
@@ -214,11 +215,11 @@ module _ (setup : Setup) (past : List Entry) (entry : Entry) (armed : Option ℕ
       is-over (failed at off later rose tally stops) = tt
 
   -- **memory was wanting as one took over, or behind it**
-  pub fell-lacked : (server : Bool) (row : PartlyRow calls start left) → server ≡ false → left.tally.armed ≡ None → LackedAt (device_by setup (λ number. fells broke (length row.made))) past server (counters_of held) (counters_of left)
-  fell-lacked server row unarmed uncounted =
+  pub fell-lacked : (entries : List Entry) (server : Bool) (row : PartlyRow calls start left) → EndsIn entries (entry ∷ past) → server ≡ false → left.tally.armed ≡ None → LackedAt (device_by setup (λ number. fells broke (length row.made))) entries past server (counters_of held) (counters_of left)
+  fell-lacked entries server row ends unarmed uncounted =
       let went = went_by broke in
       let made = row.made in
-      Falling entry went made row.last (is-fallen broke) (fells-are (length made) made refl) (way-is made row.some) row.more
+      Falling entry went made row.last ends (is-fallen broke) (fells-are (length made) made refl) (way-is made row.some) row.more
       (spent-as _ _ _ _ _ _ (counters_of held) (counters_of left)
       (plus-all (made_by went) (total made) row.last) refl (sum-none (stops_by went))
       (behind-spent (total made + row.last) (length made) row.spent))

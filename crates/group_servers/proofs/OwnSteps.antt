@@ -27,6 +27,7 @@ use Rattle.group_cluster.specs.Falling.{all_stood, catches, caught_lines, caught
 use Rattle.group_cluster.specs.Ended.{ended}
 use Rattle.cluster_clients.specs.Taken.{kept_lines}
 use Rattle.cluster_events.specs.Devices.{Device}
+use Rattle.cluster_rounds.proofs.BrokenSteps.{shown-ends}
 use Rattle.cluster_rounds.specs.declared.cluster.Cluster.{Cluster}
 use Rattle.cluster_rounds.specs.Kits.{calm_servers, device_by, servers_at}
 use Rattle.cluster_rounds.specs.Worlds.{Does, HasStateOn, any_state}
@@ -136,7 +137,7 @@ module _ (n : ℕ) where
       subst D (sym disk) (subst W (sym world) (subst A (sym same) (record {
         ok = tt;
         stands = tt;
-        broken = λ setup state good shows counted. ((same-breaks (group_kit n) (group_laws n)) old held setup state good shows, (group_laws n).lacks_same setup state old.servers held);
+        broken = λ setup state good shows counted. ((same-breaks (group_kit n) (group_laws n)) old held setup state good shows, (group_laws n).lacks_same setup state old.history.entries old.servers held ((shown-ends (group_kit n) (group_laws n)) setup state old shows));
         counts = (group_laws n).stands held;
       })))
 

@@ -10,6 +10,8 @@ use Rattle.stream_layout.specs.Deeds.{calls_of_all}
 use Rattle.plain_service.specs.Setups.{Setup}
 use Rattle.plain_service.specs.Storing.{deeds_of}
 use Rattle.cluster_facts.specs.Types.{Entry}
+use Rattle.cluster_facts.specs.Lists.{EndsIn}
+use Rattle.cluster_facts.proofs.Words.{EndsIn-same}
 use Rattle.cluster_facts.specs.History.{Ready, committed}
 use Rattle.cluster_events.specs.Servers.{State}
 use Rattle.cluster_events.specs.Devices.{IsCaused}
@@ -176,7 +178,7 @@ module _ (n : ℕ) where
             by (failed at off before_it first tally stops) = λ never number. absurd (never (le_trans first later))
 
     -- **memory was wanting, as one took over or behind it**
-    pub work-partly : FellPartly fresh old.servers.seats new.armed mid left → (TellsFiles setup now held.files → LeavesBetween setup (committed now.world.core) held.files left.files) × LacksGroup setup past new.armed (counters_of held) (counters_of left)
+    pub work-partly : FellPartly fresh old.servers.seats new.armed mid left → (TellsFiles setup now held.files → LeavesBetween setup (committed now.world.core) held.files left.files) × LacksGroup setup past old.history.entries new.armed (counters_of held) (counters_of left)
     work-partly partly = (
       λ told. files-so told partly.part,
       record {
@@ -184,7 +186,7 @@ module _ (n : ℕ) where
         past = past;
         worked = counters_of held;
         dealt = dealt-none (device_by setup (λ number. fells broke (length row.made))) past (counters_of held);
-        lacked = fell-lacked setup past entry held.tally.armed held mid partly.start left broke partly.started new.armed row partly.unarmed (uncounted-so partly.part);
+        lacked = fell-lacked setup past entry held.tally.armed held mid partly.start left broke partly.started old.history.entries new.armed row (subst (λ (entries : List Entry). EndsIn entries (entry ∷ past)) (sym shows.history) (EndsIn-same (entry ∷ past))) partly.unarmed (uncounted-so partly.part);
       },
     ) where
       T : List Seat → Type 0

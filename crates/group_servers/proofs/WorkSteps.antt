@@ -14,7 +14,7 @@ use Rattle.plain_service.specs.Storing.{deeds_of}
 use Rattle.service_laws.specs.PlainOf.{plain_of}
 use Rattle.service_laws.proofs.ServiceLaws.{is_plain}
 use Rattle.cluster_facts.specs.Types.{Call, Entry, Called, Receipted, Answer}
-use Rattle.cluster_facts.specs.Lists.{IsNumbered}
+use Rattle.cluster_facts.specs.Lists.{EndsIn, IsNumbered}
 use Rattle.cluster_facts.specs.Messages.{Posting, calls_in}
 use Rattle.cluster_facts.specs.History.{Hand, Empty, Waiting, Applied, Ready, committed, committed_by}
 use Rattle.cluster_facts.proofs.Words.{by_test}
@@ -40,7 +40,7 @@ use Rattle.cluster_rounds.specs.Broken.{Broken, LeavesBetween}
 use Rattle.cluster_rounds.specs.Came.{Came, Comes, ComesOff}
 use Rattle.cluster_rounds.specs.Kits.{device_by}
 use Rattle.cluster_rounds.specs.Worlds.{Shows, IsGood, HasState, TellsFiles, LeavesFiles, any_state}
-use Rattle.cluster_rounds.proofs.BrokenSteps.{broken-between, left-between, whole-broken}
+use Rattle.cluster_rounds.proofs.BrokenSteps.{broken-between, left-between, shown-ends, whole-broken}
 use Rattle.cluster_rounds.proofs.UnaskedSteps.{unasked-same}
 use Rattle.cluster_rounds.specs.Seen.{counters_of}
 use Rattle.group_servers.specs.declared.group.Seat.{Seat}
@@ -203,7 +203,7 @@ module _ (n : ℕ) where
       let C : Hand → Type 0 = λ hand. LeavesBetween setup (committed_by state.world.core.answered hand) held.files left.files in (
         lacks setup state held left old (record old { servers = record old.servers { active = node } }) good shows refl refl refl refl
             (λ tells. subst C (sym found.ready) ((broken-between (group_kit n) (group_laws n)) setup state found.entry Memory count held.files left.files whole tells)),
-        lacks-quiet setup state.world.core.answered old.servers.armed (suc count) (counters_of held) (counters_of left) (ap (λ (t : Tally). t.changing) tally) stands stops,
+        lacks-quiet setup state.world.core.answered old.history.entries old.servers.armed (suc count) (counters_of held) (counters_of left) ((shown-ends (group_kit n) (group_laws n)) setup state old shows) (ap (λ (t : Tally). t.changing) tally) stands stops,
       )
 
   untold-by : (setup : Setup) (state : State Peers) (hand : Hand) (entry : Entry) (old new : Cluster (Group n)) (heard : Heard) (node : Node) (held left : DiskSeen) → hand ≡ Ready entry → IsGood (group_kit n) setup (group_at state.peers.seats hand state) → Shows (group_kit n) setup (group_at state.peers.seats hand state) old → held.tally.armed ≡ state.peers.armed → IsWorked old.servers.active heard node → PostsSome heard.to_net old.net new.net → left.files ≡ option_map (all_applied (calls_of_all (deeds_in old.servers.active.replica.owed))) held.files → counts.IsShort (length (calls_of_all (deeds_in old.servers.active.replica.owed))) held.tally.armed → new.agents ≡ old.agents → new.history.entries ≡ old.history.entries → new.now ≡ old.now → (Broken (group_kit n)) setup (group_at state.peers.seats hand state) held left new
@@ -237,7 +237,7 @@ module _ (n : ℕ) where
   work-untold old new heard node before after held left some none worked posts files short tally stands stops agents history now setup state good shows armed so =
       let found = ready-for setup state old shows some none in (
         untold-by setup state state.world.core.hand found.entry old new heard node held left found.ready good shows armed worked posts files short agents history now,
-        lacks-quiet setup state.world.core.answered new.servers.armed (length (calls_of_all (deeds_in old.servers.active.replica.owed))) (counters_of held) (counters_of left) (ap (λ (t : Tally). t.changing) tally) stands stops,
+        lacks-quiet setup state.world.core.answered new.history.entries new.servers.armed (length (calls_of_all (deeds_in old.servers.active.replica.owed))) (counters_of held) (counters_of left) (subst (λ (entries : List Entry). EndsIn entries state.world.core.answered) (sym history) ((shown-ends (group_kit n) (group_laws n)) setup state old shows)) (ap (λ (t : Tally). t.changing) tally) stands stops,
       )
 
   -- What is posted is in range.

@@ -4,6 +4,7 @@ use Rattle.std.specs.List.{AllByRecursion}
 use Rattle.ais_values.specs.Causes.{Rose}
 use Rattle.disk_model.specs.Counts.{Counters, many_more}
 use Rattle.cluster_facts.specs.Types.{Entry}
+use Rattle.cluster_facts.specs.Lists.{EndsIn}
 use Rattle.cluster_events.specs.Devices.{Device}
 
 -- A count rose so many times. It stops at its type's end, so how often it rose is not told by the two numbers.
@@ -130,13 +131,13 @@ pub record Ending (device : Device) (past now : List Entry) (before after : Coun
 
 -- Memory was wanting behind so many calls, none of which failed, and the disk did not stop; or the work of the entry behind this history
 -- fell, and memory was wanting as a standby took over, in the last of so many calls, or behind all of them: it is asked for nowhere else.
--- Then no server is armed, and no count is left on the disk.
-pub data LackedAt (device : Device) (past : List Entry) (armed : Bool) (before after : Counters) : Type 0 where
+-- Then no server is armed, and no count is left on the disk. The entries that were worked are of the history that was left.
+pub data LackedAt (device : Device) (entries past : List Entry) (armed : Bool) (before after : Counters) : Type 0 where
   Quiet :
-      (calls : ℕ) → after.tally.changing ≡ many_more calls before.tally.changing → after.faults ≡ before.faults → after.stops ≡ before.stops
-      → LackedAt device past armed before after
+      EndsIn entries past → (calls : ℕ) → after.tally.changing ≡ many_more calls before.tally.changing → after.faults ≡ before.faults → after.stops ≡ before.stops
+      → LackedAt device entries past armed before after
   Falling :
-      (entry : Entry) (went : Went) (row : List ℕ) (made : ℕ) → IsFallen went → device.fails (suc (length past)) ≡ fell_by went row
+      (entry : Entry) (went : Went) (row : List ℕ) (made : ℕ) → EndsIn entries (entry ∷ past) → IsFallen went → device.fails (suc (length past)) ≡ fell_by went row
       → IsWent (device.calls past entry) went row → AreSome (device.calls past entry) made
       → Spent ((made_by went + total row) + made) (faults_by went + length row) (stops_by went) before after
-      → armed ≡ false → after.tally.armed ≡ None → LackedAt device past armed before after
+      → armed ≡ false → after.tally.armed ≡ None → LackedAt device entries past armed before after

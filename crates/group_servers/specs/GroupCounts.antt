@@ -66,13 +66,13 @@ pub record FaultsGroup (setup : Setup) (happened : ℕ → ℕ) (old now : List 
   pub rose : Rose between after.faults
   pub ended : EndedIn (device_by setup happened) old now before after
 
--- memory was wanting behind the works that were done, in whichever works the disk failed
-pub record LacksGroup (setup : Setup) (old : List Entry) (armed : Bool) (before after : Counters) : Type 0 where
+-- memory was wanting behind the works that were done, in whichever works the disk failed, and the history of the code is this
+pub record LacksGroup (setup : Setup) (old entries : List Entry) (armed : Bool) (before after : Counters) : Type 0 where
   pub happened : ℕ → ℕ
   pub past : List Entry
   pub worked : Counters
   pub dealt : Dealt (device_by setup happened) old past before worked
-  pub lacked : LackedAt (device_by setup happened) past armed worked after
+  pub lacked : LackedAt (device_by setup happened) entries past armed worked after
 
 -- Behind a crash of the active server: the history that goes on, and the calls of the deeds that standbys keep, which is none where one of
 -- them keeps none.

@@ -58,7 +58,8 @@ group_kit n = record {
       UsesGroup setup happened state.world.core.answered outcome.state.world.core.answered outcome.told (counters_of held) (counters_of left);
   Faults = λ setup happened state end held left.
       FaultsGroup setup happened state.world.core.answered end.state.world.core.answered (counters_of held) (counters_of left);
-  Lacks = λ setup state servers held left. LacksGroup setup state.world.core.answered servers.armed (counters_of held) (counters_of left);
+  Lacks = λ setup state entries servers held left.
+      LacksGroup setup state.world.core.answered entries servers.armed (counters_of held) (counters_of left);
   Outlives = λ held left. held.faults ≤ left.faults;
   Rises = RisesGroup;
   Wild = λ servers net entries seen. ⊥;

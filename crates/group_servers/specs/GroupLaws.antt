@@ -197,8 +197,8 @@ group_laws n = record {
   shown = λ one beside. refl;
   read_armed = λ peers one two beside read is. read.armed ∙ is;
   read_left = λ setup state one two beside read tells. read.files ∙ left-same setup state one.files tells;
-  read_lacks = λ setup state servers one two beside read faults.
-      lacks-quiet setup state.world.core.answered servers.armed 0 (counters_of one) (counters_of two) read.changing faults read.stops;
+  read_lacks = λ setup state entries servers one two beside ends read faults.
+      lacks-quiet setup state.world.core.answered entries servers.armed 0 (counters_of one) (counters_of two) ends read.changing faults read.stops;
   read_outlives = λ one two beside read faults. stood-later (counters_of one) (counters_of two) faults;
   read_rises = λ one two beside read later rose. record { later = later; rose = rose };
   unused = λ setup state outcome seen rests.
@@ -211,10 +211,10 @@ group_laws n = record {
   faults_behind = λ setup one two state first end held told left before after.
       faults-behind setup one two state.world.core.answered first.state.world.core.answered end.state.world.core.answered first.told
       (counters_of held) (counters_of told) (counters_of left) before after;
-  lacks_same = λ setup state servers seen.
-      lacks-quiet setup state.world.core.answered servers.armed 0 (counters_of seen) (counters_of seen) refl refl refl;
-  lacks_behind = λ setup happened state first servers held told left before after.
-      lacks-behind setup happened state.world.core.answered first.state.world.core.answered first.told servers.armed
+  lacks_same = λ setup state entries servers seen ends.
+      lacks-quiet setup state.world.core.answered entries servers.armed 0 (counters_of seen) (counters_of seen) ends refl refl refl;
+  lacks_behind = λ setup happened state first entries servers held told left before after.
+      lacks-behind setup happened state.world.core.answered first.state.world.core.answered first.told entries servers.armed
       (counters_of held) (counters_of told) (counters_of left) before after;
   stands = λ seen. le_refl seen.faults;
   further = λ one two three first second. le_trans first second;

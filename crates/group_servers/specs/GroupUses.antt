@@ -8,7 +8,7 @@ use Rattle.std.proofs.lemmas.List.Folds.{list_any-append}
 use Rattle.ais_values.specs.Causes.{Rose, one_more}
 use Rattle.disk_model.specs.Counts.{Counters, many_more}
 use Rattle.plain_service.specs.Setups.{Setup}
-use Rattle.cluster_facts.specs.Lists.{without}
+use Rattle.cluster_facts.specs.Lists.{EndsIn, without}
 use Rattle.cluster_facts.specs.Types.{Entry}
 use Rattle.cluster_events.specs.Lines.{Told, Ignored, is_ignored}
 use Rattle.cluster_events.specs.Devices.{AgreesIn, Device, spliced}
@@ -160,11 +160,11 @@ module _ (setup : Setup) (one two : ℕ → ℕ) (old middle : List Entry) (held
         };
       }
 
-  lacked-both : (past : List Entry) (armed : Bool) (worked left : Counters) → length middle ≤ length past
-      → LackedAt (device_by setup two) past armed worked left → LackedAt (device_by setup both) past armed worked left
-  lacked-both past armed worked left grown (Quiet calls made faults stops) = Quiet calls made faults stops
-  lacked-both past armed worked left grown (Falling entry went row made fallen fell way some spent unarmed uncounted) =
-      Falling entry went row made fallen (behind-is past grown ∙ fell) way some spent unarmed uncounted
+  lacked-both : (entries past : List Entry) (armed : Bool) (worked left : Counters) → length middle ≤ length past
+      → LackedAt (device_by setup two) entries past armed worked left → LackedAt (device_by setup both) entries past armed worked left
+  lacked-both entries past armed worked left grown (Quiet ends calls made faults stops) = Quiet ends calls made faults stops
+  lacked-both entries past armed worked left grown (Falling entry went row made ends fallen fell way some spent unarmed uncounted) =
+      Falling entry went row made ends fallen (behind-is past grown ∙ fell) way some spent unarmed uncounted
 
 -- Lines that tell of a server that is down. Where the count of faults stood nothing is asked.
 
@@ -236,39 +236,40 @@ faults-behind setup one two old middle now first held between left before after 
 -- Want of memory.
 
 -- no call failed, and the disk did not stop
-pub lacks-quiet : (setup : Setup) (past : List Entry) (armed : Bool) (calls : ℕ) (held left : Counters)
+pub lacks-quiet : (setup : Setup) (past entries : List Entry) (armed : Bool) (calls : ℕ) (held left : Counters) → EndsIn entries past
     → left.tally.changing ≡ many_more calls held.tally.changing → left.faults ≡ held.faults → left.stops ≡ held.stops
-    → LacksGroup setup past armed held left
-lacks-quiet setup past armed calls held left made faults stops = record {
+    → LacksGroup setup past entries armed held left
+lacks-quiet setup past entries armed calls held left ends made faults stops = record {
   happened = λ number. 0;
   past = past;
   worked = held;
   dealt = dealt-none (device_by setup (λ number. 0)) past held;
-  lacked = Quiet calls made faults stops;
+  lacked = Quiet ends calls made faults stops;
 }
 
-pub lacks-behind : (setup : Setup) (happened : ℕ → ℕ) (old middle : List Entry) (first : List Told) (armed : Bool) (held between left : Counters)
-    → UsesGroup setup happened old middle first held between → LacksGroup setup middle armed between left → LacksGroup setup old armed held left
-lacks-behind setup happened old middle first armed held between left before after = record {
+pub lacks-behind : (setup : Setup) (happened : ℕ → ℕ) (old middle : List Entry) (first : List Told) (entries : List Entry) (armed : Bool)
+    (held between left : Counters) → UsesGroup setup happened old middle first held between → LacksGroup setup middle entries armed between left
+    → LacksGroup setup old entries armed held left
+lacks-behind setup happened old middle first entries armed held between left before after = record {
   happened = spliced (length middle) happened after.happened;
   past = after.past;
   worked = after.worked;
   dealt = dealt-both setup happened after.happened old middle held between before.dealt after.past after.worked after.dealt;
   lacked =
       let grown = deals-grow after.dealt.are in
-      lacked-both setup happened after.happened old middle held between before.dealt after.past armed after.worked left grown after.lacked;
+      lacked-both setup happened after.happened old middle held between before.dealt entries after.past armed after.worked left grown after.lacked;
 }
 
 dealt-later : (device : Device) (old new : List Entry) (held left : Counters) → Dealt device old new held left → held.faults ≤ left.faults
 dealt-later device old new held left dealt = times-later (of_all faults_in dealt.deals) held.faults left.faults dealt.spent.faults
 
-lacked-later : (device : Device) (past : List Entry) (armed : Bool) (held left : Counters) → LackedAt device past armed held left → held.faults ≤ left.faults
-lacked-later device past armed held left (Quiet calls made faults stops) = stood-later held left faults
-lacked-later device past armed held left (Falling entry went row made fallen fell way some spent unarmed uncounted) =
+lacked-later : (device : Device) (entries past : List Entry) (armed : Bool) (held left : Counters) → LackedAt device entries past armed held left → held.faults ≤ left.faults
+lacked-later device entries past armed held left (Quiet ends calls made faults stops) = stood-later held left faults
+lacked-later device entries past armed held left (Falling entry went row made ends fallen fell way some spent unarmed uncounted) =
     times-later (faults_by went + length row) held.faults left.faults spent.faults
 
-pub lacks-later : (setup : Setup) (past : List Entry) (armed : Bool) (held left : Counters) → LacksGroup setup past armed held left
+pub lacks-later : (setup : Setup) (past entries : List Entry) (armed : Bool) (held left : Counters) → LacksGroup setup past entries armed held left
     → held.faults ≤ left.faults
-lacks-later setup past armed held left lacks =
+lacks-later setup past entries armed held left lacks =
     le_trans (dealt-later (device_by setup lacks.happened) past lacks.past held lacks.worked lacks.dealt)
-    (lacked-later (device_by setup lacks.happened) lacks.past armed lacks.worked left lacks.lacked)
+    (lacked-later (device_by setup lacks.happened) entries lacks.past armed lacks.worked left lacks.lacked)

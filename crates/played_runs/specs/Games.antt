@@ -114,10 +114,10 @@ module _ {P S W : Type 0} (game : Game P S W) where
       (cluster.Broken game.kit) setup state (game.kit.see (files_alone held) none_seen) (game.kit.see (files_alone left) none_seen)
       (game.parts state.peers world)
 
-  -- and servers and disk are as that leaves them
+  -- and history, servers and disk are as that leaves them
   abbrev pub Lacks : Setup → State P → DiskSeen → DiskSeen → W → Type 0
   Lacks setup state held left world =
-      game.kit.Lacks setup state (game.parts state.peers world).servers (game.kit.see held none_seen) (game.kit.see left none_seen)
+      game.kit.Lacks setup state (game.parts state.peers world).history.entries (game.parts state.peers world).servers (game.kit.see held none_seen) (game.kit.see left none_seen)
 
   -- so it is over each good state that the world and the disk stood for
   abbrev pub BreaksOn : W → W → DiskSeen → DiskSeen → Type 0

@@ -1,6 +1,7 @@
 use Rattle.std.proofs.Common.{rules}
 use Rattle.cluster_rounds.specs.Worlds.{any_state}
 use Rattle.cluster_rounds.proofs.ArmedSteps.{state-told}
+use Rattle.cluster_rounds.proofs.BrokenSteps.{broken-ends}
 use Rattle.group_servers.specs.GroupKit.{group_kit}
 use Rattle.group_servers.specs.GroupLaws.{group_laws}
 use Rattle.group_servers.proofs.CrashSteps.{crash-does, crash-off, prepared-fit}
@@ -37,4 +38,7 @@ returns-in-Err-clause-err g c =
     let old = c.args.world.now in
     let new = c.prepare.new.world in
     let untold = c.in-Err.ensures.err in
-    λ setup state good shows armed. (untold-breaks g.row.N setup state (g.D.SharedDisk.seen c.args.disk.now) old new good shows untold.net untold.agents untold.history untold.now, (group_laws g.row.N).lacks_same setup state new.servers (g.D.SharedDisk.seen c.args.disk.now))
+    let held = g.D.SharedDisk.seen c.args.disk.now in
+    λ setup state good shows armed.
+    let broken = untold-breaks g.row.N setup state held old new good shows untold.net untold.agents untold.history untold.now in
+    (broken, (group_laws g.row.N).lacks_same setup state new.history.entries new.servers held ((broken-ends (group_kit g.row.N) (group_laws g.row.N)) setup state held held new broken))

@@ -6,6 +6,7 @@ use Rattle.cluster_rounds.specs.Worlds.{any_state}
 use Rattle.cluster_rounds.specs.Broken.{BreaksAlone}
 use Rattle.cluster_rounds.specs.Came.{Comes, ComesOff, Advances}
 use Rattle.cluster_rounds.proofs.ArmedSteps.{state-told}
+use Rattle.cluster_rounds.proofs.BrokenSteps.{broken-ends}
 use Rattle.group_servers.specs.declared.group.Group.{Group}
 use Rattle.group_servers.specs.GroupKit.{group_kit}
 use Rattle.group_servers.specs.GroupLaws.{group_laws}
@@ -102,7 +103,9 @@ returns-clause-ok g c =
 pub returns-in-Err-clause-err : goal.returns-in-Err-clause-err
 returns-in-Err-clause-err g c = λ setup state good shows armed told.
     let held = g.D.SharedDisk.seen c.args.disk.now in
-    (c.in-Err.ensures.err held setup state good shows, (group_laws g.row.N).lacks_same setup state c.mirror.new.world.servers held)
+    let new = c.mirror.new.world in
+    let broken = c.in-Err.ensures.err held setup state good shows in
+    (broken, (group_laws g.row.N).lacks_same setup state new.history.entries new.servers held ((broken-ends (group_kit g.row.N) (group_laws g.row.N)) setup state held held new broken))
 
 pub returns-in-Err-ack-clause-err : goal.returns-in-Err-ack-clause-err
 returns-in-Err-ack-clause-err g c = λ setup state good shows armed told.
@@ -110,4 +113,6 @@ returns-in-Err-ack-clause-err g c = λ setup state good shows armed told.
     let S : Bool → Type 0 = λ went. StepsBy g.row.N mirror_group went c.args.world.now c.mirror.new.world c.args.lines.now.items c.mirror.new.lines.items in
     let none = subst S c.if-mirrored.false c.in-Ok.ensures.ok in
     let B : Cluster (Group g.row.N) → Type 0 = λ world. BreaksAlone (group_kit g.row.N) world c.ack.new.world in
-    (subst B none.0 c.in-Err-ack.ensures.err held setup state good shows, (group_laws g.row.N).lacks_same setup state c.ack.new.world.servers held)
+    let new = c.ack.new.world in
+    let broken = subst B none.0 c.in-Err-ack.ensures.err held setup state good shows in
+    (broken, (group_laws g.row.N).lacks_same setup state new.history.entries new.servers held ((broken-ends (group_kit g.row.N) (group_laws g.row.N)) setup state held held new broken))
