@@ -125,7 +125,7 @@ does-event next old new before after lines held left none same whole setup state
         shown = done.shelf_is;
         step = record { fails = done.happened; happens = done.leads; caused = done.uses.caused };
         later = done.uses.later;
-        felled = few-fell (count_seats is_standby state.peers.seats) next held.faults left.faults done.outcome.told (few-standbys state.peers.acting state.peers.seats good.steady.good.names good.steady.good.apart) done.uses.felled;
+        felled = few-fell (count_seats is_standby state.peers.seats) next held.faults left.faults done.outcome.told (few-standbys state.peers.acting state.peers.seats good.steady.good.names good.steady.good.acts good.steady.good.apart) done.uses.felled;
         counts =
             let C : Option Files → Type 0 = λ shown. CountsLine next (device_by setup done.happened) shown state done.outcome.state (counters_of held) (counters_of left) in
             subst C (files-told held.files (files_of setup state.world.core.answered) tells) done.uses.counts;

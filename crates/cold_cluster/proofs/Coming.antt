@@ -31,7 +31,7 @@ rest-beside = record { acting = refl; mark = Clear; keeps = false; seats = refl;
 
 rest-good : (world : World) (past : List Entry) → IsCold (record { world = with_core past Empty world; peers = at_rest })
 rest-good world past =
-    (record { agree = (tt, (tt, tt)); waits = tt; armed = tt; apart = (λ same. refl, (λ same. cc, tt)); names = refl }, rest-beside)
+    (record { agree = (tt, (tt, tt)); waits = tt; armed = tt; apart = (λ same. refl, (λ same. cc, tt)); names = refl; acts = refl }, rest-beside)
 
 pub start-steady : (plain : Plain) (now : ℤ) (places : ℕ) → IsSteady plain IsCold (cold_begun now places)
 start-steady plain now places = record { sound = IsSound-start plain now places; good = rest-good (cold_begun now places).world [] }

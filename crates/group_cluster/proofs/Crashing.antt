@@ -6,9 +6,9 @@ use Rattle.cluster_facts.specs.Types.{Entry}
 use Rattle.cluster_facts.specs.History.{committed_by}
 use Rattle.cluster_events.specs.Servers.{State}
 use Rattle.cluster_events.specs.Devices.{Device}
-use Rattle.group_cluster.specs.Seats.{Stance, Out, Owed, Linking, Standby, Clear, Sent, Took, Seat, Peers, IsGroup, IsApart, same_server, stance_of, on_seats, any_seat, count_seats, is_standby}
+use Rattle.group_cluster.specs.Seats.{Stance, Out, Owed, Linking, Standby, Clear, Sent, Took, Seat, Peers, IsGroup, IsApart, is_up, same_server, stance_of, on_seats, any_seat, count_seats, is_standby}
 use Rattle.group_cluster.specs.Falling.{out_at, caught, catches, caught_seats, caught_hand, is_fresh, takes, felled, named, next_of, rejoined, failing, capped, count_fallen, crash_active, crash_other, crash_by, is_served}
-use Rattle.group_cluster.specs.Standing.{is_up, is_up_in, CrashesOne, CrashTakesOne}
+use Rattle.group_cluster.specs.Standing.{is_up_in, CrashesOne, CrashTakesOne}
 use Rattle.group_cluster.proofs.Seating.{same-turned, same-is, apart-on, apart-caught, apart-at}
 use Rattle.group_cluster.proofs.Staying.{Stay, stay-same, stay-on, stay-stance}
 

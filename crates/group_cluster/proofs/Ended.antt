@@ -1,5 +1,5 @@
 -- Where a fault ends a run of two servers, all promises hold.
-use Rattle.std.proofs.Common.{◌≡◌, ℕ, ℤ, suc, Bool, true, false, if◌then◌else◌, List, ◌∷◌, ◌++◌, length, refl, sym, ◌∙◌, subst, arith}
+use Rattle.std.proofs.Common.{◌≡◌, ℕ, ℤ, suc, Bool, false, if◌then◌else◌, List, ◌∷◌, ◌++◌, length, refl, ap, sym, ◌∙◌, subst, arith}
 use Rattle.script_lines.specs.declared.line.Line.{Line}
 use Rattle.script_lines.specs.declared.line.Line.TheVariants as line
 use Rattle.cluster_facts.specs.Types.{Call, Reply, Entry, Called, Receipted, Answer}
@@ -23,12 +23,12 @@ use Rattle.cluster_events.proofs.Telling.{Says-both}
 use Rattle.cluster_events.proofs.Promised.{Says-printed, at-end}
 use Rattle.cluster_events.proofs.Quiet.{answers-called}
 use Rattle.cluster_events.proofs.Runs.{any-says}
-use Rattle.group_cluster.specs.Seats.{Stance, Out, Owed, Linking, Standby, Seat, Peers, Agree, AreNames, names_of, IsGroup, is_standby}
-use Rattle.group_cluster.specs.Falling.{catches, caught, caught_seats, caught_hand, caught_lines, named}
+use Rattle.group_cluster.specs.Seats.{Stance, Out, Owed, Linking, Standby, Peers, on_seats, Agree, AreNames, names_of, is_named, IsGroup, is_standby}
+use Rattle.group_cluster.specs.Falling.{catches, caught_seats, caught_hand, caught_lines, named}
 use Rattle.group_cluster.specs.Group.{group, group_start}
 use Rattle.group_cluster.specs.Running.{GroupStepBy}
 use Rattle.group_cluster.specs.Ended.{left_out, ended_by, ended, EndsGroup, EndsGroupStep, EndsSettle, GroupEnds, EndKeepsPromises, EndLacksReply}
-use Rattle.group_cluster.proofs.Seating.{all-made, apart-on, apart-caught, names-on}
+use Rattle.group_cluster.proofs.Seating.{all-made, apart-on, apart-caught, names-on, names-caught}
 use Rattle.group_cluster.proofs.Stepping.{over-sound, over-down, all-stood-go}
 use Rattle.group_cluster.proofs.Serving.{group-stepped}
 use Rattle.group_cluster.proofs.Saying.{says-borne, group-serves, group-says}
@@ -40,10 +40,6 @@ left-agrees Out = tt
 left-agrees Owed = tt
 left-agrees (Linking sent) = tt
 left-agrees (Standby on_way mark keeps) = tt
-
-caught-names : (catching : Bool) (seats : List Seat) → names_of (caught_seats catching seats) ≡ names_of seats
-caught-names true seats = names-on caught seats
-caught-names false seats = refl
 
 -- a call whose entry is ready has no reply in the net
 unposted : (plain : Plain) (world : World) (past : List Entry) (client number : ℕ) (time : ℤ) (call : Call) (reply : Reply) → IsSound plain (with_core past (Ready (Called client number time call)) world) → Stands (Answer client number reply) (messages_in world.net) → ⊥
@@ -77,6 +73,7 @@ module _ (plain : Plain) (is_plain : IsPlain plain) (device : Device) where
       let past = world.core.answered in
       let hand = world.core.hand in
       let seats = caught_seats catching state.peers.seats in
+      let same : names_of (on_seats left_out seats) ≡ names_of state.peers.seats = names-on left_out seats ∙ names-caught catching state.peers.seats in
       let new = with_core (committed_by past (caught_hand catching hand)) Empty world in (
         record {
           sound = over-sound plain is_plain device (Says plain) bears world past catching hand steady.sound;
@@ -85,7 +82,8 @@ module _ (plain : Plain) (is_plain : IsPlain plain) (device : Device) where
             waits = tt;
             armed = tt;
             apart = apart-on state.peers.acting left_out refl seats (apart-caught state.peers.acting catching state.peers.seats steady.good.apart);
-            names = subst AreNames (sym (names-on left_out seats ∙ caught-names catching state.peers.seats)) steady.good.names;
+            names = subst AreNames (sym same) steady.good.names;
+            acts = ap (is_named state.peers.acting) same ∙ steady.good.acts;
           };
         },
         all-stood-go plain is_plain device (Says plain) bears world new role.Down (named is_standby seats) (Stood state.peers.acting role.Down ∷ caught_lines catching past hand) (over-down plain is_plain device (Says plain) bears world past catching hand state.peers.acting steady.sound),

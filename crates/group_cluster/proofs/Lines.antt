@@ -1,5 +1,5 @@
 -- Every line keeps the facts of the servers, and the relation of its kind.
-use Rattle.std.proofs.Common.{◌≡◌, ℕ, ◌≤◌, Bool, true, false, ◌&&◌, Option, Some, None, List, [], ◌∷◌, refl, sym, ◌∙◌, subst}
+use Rattle.std.proofs.Common.{◌≡◌, ℕ, ◌≤◌, Bool, true, false, ◌&&◌, not, Option, Some, None, List, [], ◌∷◌, refl, ap, sym, ◌∙◌, subst}
 use Rattle.script_lines.specs.declared.line.Line.{Line}
 use Rattle.script_lines.specs.declared.line.Line.TheVariants as line
 use Rattle.script_lines.specs.declared.line.Server.{Server}
@@ -13,8 +13,8 @@ use Rattle.cluster_events.specs.Servers.{State}
 use Rattle.cluster_events.specs.Devices.{Device}
 use Rattle.cluster_events.specs.Serving.{IsSteady}
 use Rattle.cluster_events.specs.Running.{Shelf, Happens}
-use Rattle.group_cluster.specs.Seats.{Stance, Out, Owed, Linking, Standby, Seat, Peers, is_standby, any_seat, Agree, IsArmed, AreNames, IsGroup, same_server, stance_of, standing_group}
-use Rattle.group_cluster.specs.Falling.{refused, out_at, set_at, back_by, other_down, is_fresh, catches, caught_seats, taken_over, crash_active, is_served, crash_other, crash_by, arm_by, disarm, joined, restart_by}
+use Rattle.group_cluster.specs.Seats.{Stance, Out, Owed, Linking, Standby, Seat, Peers, is_standby, any_seat, Agree, IsArmed, AreNames, names_of, is_named, is_out_at, IsGroup, same_server, stance_of, standing_group}
+use Rattle.group_cluster.specs.Falling.{refused, out_at, set_at, back_by, other_down, is_fresh, catches, caught_seats, taken_over, crash_active, is_served, crash_other, crash_by, arm_by, disarm, joined, can_join, restart_by}
 use Rattle.group_cluster.specs.Group.{group}
 use Rattle.group_cluster.specs.Running.{GroupHappens}
 use Rattle.group_cluster.proofs.Seating.{all-at, any-at, names-at, apart-at, looked-seated, back-agrees, back-standby, back-waits}
@@ -34,7 +34,7 @@ module _ (plain : Plain) (is_plain : IsPlain plain) (device : Device) (R : World
       let hand = world.core.hand in
       let catching = catches state.peers.seats hand in
       let fresh = any_seat is_fresh (caught_seats catching state.peers.seats) in
-      (record { sound = over-sound plain is_plain device R bears world world.core.answered catching hand steady.sound; good = over-good plain is_plain device R bears state hand catching fresh steady.good.names }, over-goes plain is_plain device R bears state hand catching fresh steady.sound)
+      (record { sound = over-sound plain is_plain device R bears world world.core.answered catching hand steady.sound; good = over-good plain is_plain device R bears state hand catching fresh steady.good.names steady.good.acts }, over-goes plain is_plain device R bears state hand catching fresh steady.sound)
 
   served-armed : (armed : Option ℕ) (old new : List Seat) → IsArmed armed old → is_served armed new ≡ true → IsArmed armed new
   served-armed None old new is served = tt
@@ -45,6 +45,7 @@ module _ (plain : Plain) (is_plain : IsPlain plain) (device : Device) (R : World
       let hand = state.world.core.hand in
       let seats = state.peers.seats in
       let out = out_at server seats in
+      let same : names_of out ≡ names_of seats = names-at server (λ stance. Out) seats in
       let seated = looked-seated out hand (all-at (Agree hand) (Agree hand) server (λ stance. Out) (λ stance agree. tt) (λ stance agree. agree) seats steady.good.agree) in
       let keeps = looked-keeps plain is_plain device R bears state.world state.world.core.answered out hand (Stood server role.Down ∷ []) (λ now. bears.stood now server role.Down) steady.sound in (
         record {
@@ -54,7 +55,8 @@ module _ (plain : Plain) (is_plain : IsPlain plain) (device : Device) (R : World
             waits = seated.waits;
             armed = served-armed state.peers.armed seats out steady.good.armed served;
             apart = apart-at state.peers.acting server (λ stance. Out) other seats steady.good.apart;
-            names = subst AreNames (sym (names-at server (λ stance. Out) seats)) steady.good.names;
+            names = subst AreNames (sym same) steady.good.names;
+            acts = ap (is_named state.peers.acting) same ∙ steady.good.acts;
           };
         },
         keeps.1,
@@ -81,7 +83,7 @@ module _ (plain : Plain) (is_plain : IsPlain plain) (device : Device) (R : World
   pub arm-keeps : (server : Server) (count : ℕ) (can : Bool) (state : State Peers) → (same_server server state.peers.acting && any_seat is_standby state.peers.seats) ≡ can → 1 ≤ count → IsSteady plain IsGroup state → Keeps state (arm_by server count can state)
   arm-keeps server count true state is some steady =
       let good = steady.good in
-      (record { sound = steady.sound; good = record { agree = good.agree; waits = good.waits; armed = (some, both-right (same_server server state.peers.acting) (any_seat is_standby state.peers.seats) is); apart = good.apart; names = good.names } }, bears.same state.world)
+      (record { sound = steady.sound; good = record { agree = good.agree; waits = good.waits; armed = (some, both-right (same_server server state.peers.acting) (any_seat is_standby state.peers.seats) is); apart = good.apart; names = good.names; acts = good.acts } }, bears.same state.world)
     where
       both-right : (one other : Bool) → (one && other) ≡ true → other ≡ true
       both-right true other is = is
@@ -91,7 +93,7 @@ module _ (plain : Plain) (is_plain : IsPlain plain) (device : Device) (R : World
   pub disarm-keeps : (state : State Peers) → IsSteady plain IsGroup state → Keeps state (disarm state)
   disarm-keeps state steady =
       let good = steady.good in
-      (record { sound = steady.sound; good = record { agree = good.agree; waits = good.waits; armed = tt; apart = good.apart; names = good.names } }, bears.same state.world)
+      (record { sound = steady.sound; good = record { agree = good.agree; waits = good.waits; armed = tt; apart = good.apart; names = good.names; acts = good.acts } }, bears.same state.world)
 
   back-armed : (armed : Option ℕ) (server : Server) (hand : Hand) (seats : List Seat) → IsArmed armed seats → IsArmed armed (set_at server (back_by hand) seats)
   back-armed None server hand seats is = tt
@@ -101,6 +103,7 @@ module _ (plain : Plain) (is_plain : IsPlain plain) (device : Device) (R : World
   joined-keeps server state other steady =
       let hand = state.world.core.hand in
       let seats = state.peers.seats in
+      let same : names_of (set_at server (back_by hand) seats) ≡ names_of seats = names-at server (back_by hand) seats in
       record {
         sound = steady.sound;
         good = record {
@@ -108,16 +111,19 @@ module _ (plain : Plain) (is_plain : IsPlain plain) (device : Device) (R : World
           waits = back-waits hand server seats steady.good.waits;
           armed = back-armed state.peers.armed server hand seats steady.good.armed;
           apart = apart-at state.peers.acting server (back_by hand) other seats steady.good.apart;
-          names = subst AreNames (sym (names-at server (back_by hand) seats)) steady.good.names;
+          names = subst AreNames (sym same) steady.good.names;
+          acts = ap (is_named state.peers.acting) same ∙ steady.good.acts;
         };
       }
 
-  pub restart-keeps : (server : Server) (active : Bool) (stance : Stance) (state : State Peers) → same_server server state.peers.acting ≡ active → IsSteady plain IsGroup state → Keeps state (restart_by server active stance state)
-  restart-keeps server true stance state is steady = refused-keeps state (line.Restart server) steady
-  restart-keeps server false Out state is steady = (joined-keeps server state is steady, bears.stood state.world server role.Joining)
-  restart-keeps server false Owed state is steady = refused-keeps state (line.Restart server) steady
-  restart-keeps server false (Linking sent) state is steady = refused-keeps state (line.Restart server) steady
-  restart-keeps server false (Standby on_way mark keeps) state is steady = refused-keeps state (line.Restart server) steady
+  pub restart-keeps : (server : Server) (back : Bool) (state : State Peers) → can_join server state.peers ≡ back → IsSteady plain IsGroup state → Keeps state (restart_by server back state)
+  restart-keeps server true state is steady =
+      (joined-keeps server state (is-other (same_server server state.peers.acting) (is_out_at server state.peers.seats) is) steady, bears.stood state.world server role.Joining)
+    where
+      is-other : (same out : Bool) → (not same && out) ≡ true → same ≡ false
+      is-other true out is = cc
+      is-other false out is = refl
+  restart-keeps server false state is steady = refused-keeps state (line.Restart server) steady
 
   -- **a line on failing servers keeps the facts and the relation, and so does any other that does**
   pub failures-keep : (shelf : Shelf) → ((next : Line) (state : State Peers) (outcome : Outcome (State Peers)) → IsSteady plain IsGroup state → Happens plain shelf (group plain device) next state outcome → Keeps state outcome) → (next : Line) (state : State Peers) (outcome : Outcome (State Peers)) → IsSteady plain IsGroup state → GroupHappens plain shelf device next state outcome → Keeps state outcome
@@ -128,5 +134,5 @@ module _ (plain : Plain) (is_plain : IsPlain plain) (device : Device) (R : World
   failures-keep shelf others line.Disarm state outcome steady happens =
       subst (Keeps state) (sym happens) (disarm-keeps state steady)
   failures-keep shelf others (line.Restart server) state outcome steady happens =
-      subst (Keeps state) (sym happens) (restart-keeps server (same_server server state.peers.acting) (stance_of server state.peers.seats) state refl steady)
+      subst (Keeps state) (sym happens) (restart-keeps server (can_join server state.peers) state refl steady)
   failures-keep shelf others next state outcome steady happens = others next state outcome steady happens

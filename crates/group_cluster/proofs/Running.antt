@@ -42,7 +42,7 @@ start-steady plain others can now places =
     let apart = others-apart others can in
     record {
       sound = IsSound-start plain now places;
-      good = record { agree = (tt, others-agree others); waits = tt; armed = tt; apart = (λ same. refl, apart.0); names = apart.1 };
+      good = record { agree = (tt, others-agree others); waits = tt; armed = tt; apart = (λ same. refl, apart.0); names = apart.1; acts = refl };
     }
 
 module _ (plain : Plain) (is_plain : IsPlain plain) (shelf : Shelf) where

@@ -57,6 +57,10 @@ pub names-at : (server : Server) (change : Stance → Stance) (seats : List Seat
 names-at server change [] = refl
 names-at server change (seat ∷ seats) = ap (λ names. seat.server ∷ names) (names-at server change seats)
 
+pub names-caught : (catching : Bool) (seats : List Seat) → names_of (caught_seats catching seats) ≡ names_of seats
+names-caught true seats = names-on caught seats
+names-caught false seats = refl
+
 names-long : (seats : List Seat) → length (names_of seats) ≡ length seats
 names-long [] = refl
 names-long (seat ∷ seats) = ap suc (names-long seats)

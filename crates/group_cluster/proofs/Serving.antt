@@ -17,7 +17,7 @@ use Rattle.cluster_events.specs.Settling.{is_loud}
 use Rattle.cluster_events.specs.Serving.{IsSteady, Accepts, Drains, IsServing, IsCarried, IsStepped, AreStepped}
 use Rattle.cluster_events.proofs.Sound.{accept-sound}
 use Rattle.cluster_events.proofs.Carrying.{IsTold, told-carried}
-use Rattle.group_cluster.specs.Seats.{Seat, Peers, is_standby, is_sent, any_seat, on_seats, Agree, WaitsFor, IsArmed, AreNames, IsGroup}
+use Rattle.group_cluster.specs.Seats.{Seat, Peers, is_standby, is_sent, any_seat, on_seats, Agree, WaitsFor, IsArmed, AreNames, is_named, IsGroup}
 use Rattle.group_cluster.specs.Falling.{taken_by, looked_at, commitment}
 use Rattle.group_cluster.specs.Group.{sent_to, accept_group, mirror_group, ack_group, group}
 use Rattle.group_cluster.proofs.Sounding.{looked-accepts}
@@ -38,7 +38,15 @@ accepts-good entry state empty good =
     let seats = state.peers.seats in
     let sent = on_seats sent_to seats in
     let seated = looked-seated sent (Waiting entry) (all-on (Agree Empty) (Agree (Waiting entry)) sent_to (sent-agrees entry) seats (agree-hand state.world.core.hand seats empty good.agree)) in
-    record { agree = seated.agree; waits = seated.waits; armed = sent-armed state.peers.armed seats good.armed; apart = apart-on state.peers.acting sent_to refl seats good.apart; names = subst AreNames (sym (names-on sent_to seats)) good.names }
+    let same = names-on sent_to seats in
+    record {
+      agree = seated.agree;
+      waits = seated.waits;
+      armed = sent-armed state.peers.armed seats good.armed;
+      apart = apart-on state.peers.acting sent_to refl seats good.apart;
+      names = subst AreNames (sym same) good.names;
+      acts = ap (is_named state.peers.acting) same ∙ good.acts;
+    }
 
 accepts-by : (entry : Entry) (state : State Peers) → state.world.core.hand ≡ Empty → IsGroup state → Accepts IsGroup entry state (accept_group entry state).state
 accepts-by entry state empty good =
@@ -98,6 +106,7 @@ module _ (plain : Plain) (is_plain : IsPlain plain) (device : Device) (R : World
       armed = good.armed;
       apart = good.apart;
       names = good.names;
+      acts = good.acts;
     };
     accepts = accepts-by;
     drains = drains-by;

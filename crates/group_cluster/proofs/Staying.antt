@@ -17,10 +17,10 @@ use Rattle.cluster_events.specs.Running.{Shelf, Happens}
 use Rattle.cluster_events.specs.Saying.{Says}
 use Rattle.cluster_events.specs.Serving.{IsSteady}
 use Rattle.cluster_events.proofs.Promised.{happens-kept}
-use Rattle.group_cluster.specs.Seats.{Stance, Out, Owed, Linking, Standby, Clear, Sent, Took, Seat, Peers, IsGroup, same_server, stance_of, on_seats, any_seat, is_standby}
-use Rattle.group_cluster.specs.Falling.{set_at, arm_by, restart_by, back_by}
+use Rattle.group_cluster.specs.Seats.{Stance, Out, Owed, Linking, Standby, Clear, Sent, Took, Seat, Peers, IsGroup, is_up, same_server, stance_of, on_seats, any_seat, is_standby}
+use Rattle.group_cluster.specs.Falling.{set_at, arm_by, can_join, restart_by, back_by}
 use Rattle.group_cluster.specs.Group.{Turn, mirrored, confirmed, first_turn, step_by, sent_to, accept_group, linked, fails_in, falls, work_as, work_by, group}
-use Rattle.group_cluster.specs.Standing.{is_up, StayUp, ServersStayUp}
+use Rattle.group_cluster.specs.Standing.{StayUp, ServersStayUp}
 use Rattle.group_cluster.proofs.Seating.{Turned, is-turned}
 use Rattle.group_cluster.proofs.Seating.Turned.{here, there}
 use Rattle.group_cluster.proofs.Serving.{group-stepped}
@@ -259,14 +259,11 @@ back-up hand Owed up = refl
 back-up hand (Linking sent) up = refl
 back-up hand (Standby on_way mark keeps) up = refl
 
-restart-stays : (server : Server) (active : Bool) (stance : Stance) (state : State Peers) → StayUp state.peers (restart_by server active stance state).state.peers
-restart-stays server true stance state = still state.peers
-restart-stays server false Out state =
+restart-stays : (server : Server) (back : Bool) (state : State Peers) → StayUp state.peers (restart_by server back state).state.peers
+restart-stays server true state =
     let hand = state.world.core.hand in
     stays-up state.peers _ (record { active = refl; stay = stay-at server (back_by hand) (back-up hand) state.peers.seats state.peers.seats (stay-same state.peers.seats) })
-restart-stays server false Owed state = still state.peers
-restart-stays server false (Linking sent) state = still state.peers
-restart-stays server false (Standby on_way mark keeps) state = still state.peers
+restart-stays server false state = still state.peers
 
 pub servers-stay-up : ServersStayUp
 servers-stay-up plain is_plain shelf device never (line.Crash server) state outcome steady calm happens short = cc
@@ -275,6 +272,6 @@ servers-stay-up plain is_plain shelf device never (line.Arm server count) state 
 servers-stay-up plain is_plain shelf device never line.Disarm state outcome steady calm happens short =
     subst (λ (o : Outcome (State Peers)). StayUp state.peers o.state.peers) (sym happens) (record { active = refl; others = λ server up. up })
 servers-stay-up plain is_plain shelf device never (line.Restart server) state outcome steady calm happens short =
-    subst (λ (o : Outcome (State Peers)). StayUp state.peers o.state.peers) (sym happens) (restart-stays server (same_server server state.peers.acting) (stance_of server state.peers.seats) state)
+    subst (λ (o : Outcome (State Peers)). StayUp state.peers o.state.peers) (sym happens) (restart-stays server (can_join server state.peers) state)
 servers-stay-up plain is_plain shelf device never next state outcome steady calm happens short =
     others-stay plain is_plain shelf device never state.peers.armed next state outcome refl steady happens short

@@ -1,6 +1,7 @@
 -- What each step of the servers leaves, as one record, over any relation of worlds and lines that their steps keep; and a drain, by a number
 -- that falls with each step.
 use Rattle.std.proofs.Common.{◌≡◌, ℕ, zero, suc, ◌+◌, ◌-◌, ◌≤◌, ◌⊎◌, inl, inr, Bool, true, false, ◌&&◌, ◌||◌, nat_le, if◌then◌else◌, Option, Some, None, List, [], ◌∷◌, ◌++◌, length, refl, ap, sym, ◌∙◌, subst, arith, leb-false}
+use Rattle.std.specs.List.{AllByRecursion}
 use Rattle.disk_model.specs.Counts.{reaches, lowered}
 use Rattle.script_lines.specs.declared.line.Line.{Line}
 use Rattle.script_lines.specs.declared.line.Server.{Server}
@@ -22,12 +23,12 @@ use Rattle.cluster_events.specs.Settling.{is_loud}
 use Rattle.cluster_events.specs.Serving.{Stays}
 use Rattle.cluster_events.proofs.Carrying.{Stays-same, Stays-both}
 use Rattle.group_cluster.specs.Answering.{net_answering, lines_answering}
-use Rattle.group_cluster.specs.Seats.{Stance, Out, Seat, Peers, is_standby, is_sent, is_took, any_seat, on_seats, Agree, WaitsFor, IsArmed, IsApart, AreNames, names_of, IsGroup}
-use Rattle.group_cluster.specs.Falling.{taken_by, looked_at, commitment, looked, out_at, rejoined, felled, next_of, front_of, named, takes, count_fallen, all_stood, is_joining, is_fresh, caught as one_caught, caught_seats, caught_hand, caught_lines, taken_over_by}
+use Rattle.group_cluster.specs.Seats.{Stance, Out, Seat, Peers, is_standby, is_sent, is_took, any_seat, on_seats, Agree, WaitsFor, IsArmed, IsApart, AreNames, names_of, is_named, IsGroup}
+use Rattle.group_cluster.specs.Falling.{taken_by, looked_at, commitment, looked, out_at, rejoined, felled, next_of, front_of, named, takes, count_fallen, all_stood, is_joining, is_fresh, caught_seats, caught_hand, caught_lines, taken_over_by}
 use Rattle.group_cluster.specs.Group.{Turn, mirrored, confirmed, first_turn, step_by, mirror_group, ack_group, fails_in, falls, linked, work_done, work_as, work_by, group}
 use Rattle.group_cluster.proofs.Answering.{answer-facts, answer-net}
 use Rattle.group_cluster.proofs.Sounding.{sound-over, sound-hand, looked-accepts, caught-accepts}
-use Rattle.group_cluster.proofs.Seating.{AllSeats, all-on, all-made, all-at, any-on, names-on, names-at, few-seats, apart-on, apart-out, looked-seated, weights, weights-most, weights-on, weights-rejoined, Turned, is-turned, AreRoles, silent, stood, IsTurning, mirrored-turns, confirmed-turns, turned-all, none-turned, none-sent, none-took, linked-agrees, linked-standby, linked-weighs, rejoined-agrees, names-felled}
+use Rattle.group_cluster.proofs.Seating.{AllSeats, all-on, all-made, all-at, any-on, names-on, names-at, names-caught, few-seats, apart-on, apart-out, looked-seated, weights, weights-most, weights-on, weights-rejoined, Turned, is-turned, AreRoles, silent, stood, IsTurning, mirrored-turns, confirmed-turns, turned-all, none-turned, none-sent, none-took, linked-agrees, linked-standby, linked-weighs, rejoined-agrees, names-felled}
 
 -- what is asked of a relation of worlds and lines, that the servers keep it
 pub record Bears (plain : Plain) (R : World → World → List Told → Type 0) : Type 0 where
@@ -185,14 +186,14 @@ module _ (plain : Plain) (is_plain : IsPlain plain) (device : Device) (R : World
       (sound-hand plain past hand (looked_at seats hand) world (sym (looked-accepts past seats hand)) sound, bears.both old new new (commitment seats past hand) roles (looked-goes world past seats hand sound) (shows new))
 
   -- **a change of the servers that leaves fewer steps**
-  pub looked-nears : (state : State Peers) (hand : Hand) (seats : List Seat) (roles : List Told) → AllSeats (Agree hand) seats → IsArmed state.peers.armed seats → IsApart state.peers.acting seats → AreNames (names_of seats) → suc (weights seats) ≤ weights state.peers.seats → ((now : World) → R now now roles) → Nears plain R (group_at state.peers.seats hand state) (looked seats hand roles (group_at state.peers.seats hand state))
-  looked-nears state hand seats roles agree armed apart names fewer shows =
+  pub looked-nears : (state : State Peers) (hand : Hand) (seats : List Seat) (roles : List Told) → AllSeats (Agree hand) seats → IsArmed state.peers.armed seats → IsApart state.peers.acting seats → AreNames (names_of seats) → is_named state.peers.acting (names_of seats) ≡ true → suc (weights seats) ≤ weights state.peers.seats → ((now : World) → R now now roles) → Nears plain R (group_at state.peers.seats hand state) (looked seats hand roles (group_at state.peers.seats hand state))
+  looked-nears state hand seats roles agree armed apart names acts fewer shows =
       let past = state.world.core.answered in
       let seated = looked-seated seats hand agree in
       let same = looked-one seats hand in
       record {
         steps = record {
-          good = record { agree = seated.agree; waits = seated.waits; armed = armed; apart = apart; names = names };
+          good = record { agree = seated.agree; waits = seated.waits; armed = armed; apart = apart; names = names; acts = acts };
           done = looked-accepts past seats hand;
           agents = refl;
           stays = stays-hand state.world past hand (looked_at seats hand);
@@ -216,7 +217,7 @@ module _ (plain : Plain) (is_plain : IsPlain plain) (device : Device) (R : World
       let I : Option (List Seat × List Told) → Type 0 = elim [ None ↦ Unit {0} | Some t ↦ Turned turn seats t.0 t.1 ] in
       let by : Turned turn seats turned.0 turned.1 = subst I is (is-turned turn seats) in
       let all = turned-all hand state.peers.acting turn turns by good.agree in
-      looked-nears state hand turned.0 turned.1 all.agree (turned-armed state.peers.armed seats turned.0 all.standby good.armed) (all.apart good.apart) (subst AreNames (sym all.names) good.names) all.fewer (λ now. roles-go now all.roles)
+      looked-nears state hand turned.0 turned.1 all.agree (turned-armed state.peers.armed seats turned.0 all.standby good.armed) (all.apart good.apart) (subst AreNames (sym all.names) good.names) (ap (is_named state.peers.acting) all.names ∙ good.acts) all.fewer (λ now. roles-go now all.roles)
 
   -- The active server goes down.
 
@@ -255,38 +256,58 @@ module _ (plain : Plain) (is_plain : IsPlain plain) (device : Device) (R : World
       let lines = all_stood role.Down (front_of count names) down in
       all-stood-go old new role.Standby (named is_joining seats) (Stood acting role.Active ∷ lines) (bears.both old new new lines (Stood acting role.Active ∷ []) fell (bears.stood new acting role.Active))
 
+  row-all : (P : Server → Type 0) (test : Stance → Bool) (seats : List Seat) → AllByRecursion P (names_of seats) → AllByRecursion P (named test seats)
+  row-all P test [] all = tt
+  row-all P test (seat ∷ seats) all =
+      let S : Bool → Type 0 = λ b. AllByRecursion P (if b then seat.server ∷ named test seats else named test seats) in
+      elim (test seat.stance) as S [ true ↦ (all.0, row-all P test seats all.1) | false ↦ row-all P test seats all.1 ]
+
+  next-all : (P : Server → Type 0) (last : Server) (count : ℕ) (row : List Server) → P last → AllByRecursion P row → P (next_of last count row)
+  next-all P last zero [] is all = is
+  next-all P last (suc count) [] is all = is
+  next-all P last zero (server ∷ servers) is all = all.0
+  next-all P last (suc count) (server ∷ servers) is all = next-all P last count servers is all.1
+
+  -- the next one of a row is one of the servers
+  next-named : (test : Stance → Bool) (last : Server) (count : ℕ) (seats : List Seat) → AreNames (names_of seats) → is_named last (names_of seats) ≡ true → is_named (next_of last count (named test seats)) (names_of seats) ≡ true
+  next-named test last count seats names is =
+      let P : Server → Type 0 = λ server. is_named server (names_of seats) ≡ true in
+      let N : List Server → Type 0 = λ ones. AllByRecursion (λ (server : Server). is_named server ones ≡ true) ones in
+      next-all P last count (named test seats) is (row-all P test seats (subst N (sym names) (refl, (refl, tt))))
+
   names-over : (catching : Bool) (test : Stance → Bool) (count : ℕ) (acting : Server) (seats : List Seat) → names_of (out_at acting (on_seats rejoined (felled test count (caught_seats catching seats)))) ≡ names_of seats
-  names-over true test count acting seats =
-      names-at acting (λ stance. Out) (on_seats rejoined (felled test count (caught_seats true seats))) ∙ names-on rejoined (felled test count (caught_seats true seats))
-      ∙ names-felled test count (caught_seats true seats) ∙ names-on one_caught seats
-  names-over false test count acting seats =
-      names-at acting (λ stance. Out) (on_seats rejoined (felled test count seats)) ∙ names-on rejoined (felled test count seats) ∙ names-felled test count seats
+  names-over catching test count acting seats =
+      let caught = caught_seats catching seats in
+      names-at acting (λ stance. Out) (on_seats rejoined (felled test count caught)) ∙ names-on rejoined (felled test count caught)
+      ∙ names-felled test count caught ∙ names-caught catching seats
 
   -- **whoever takes over**
-  pub over-good : (state : State Peers) (hand : Hand) (catching fresh : Bool) → AreNames (names_of state.peers.seats) → IsGroup (taken_over_by device fresh (caught_seats catching state.peers.seats) (caught_hand catching hand) (caught_lines catching state.world.core.answered hand) (group_at state.peers.seats hand state)).state
-  over-good state hand catching fresh names =
+  pub over-good : (state : State Peers) (hand : Hand) (catching fresh : Bool) → AreNames (names_of state.peers.seats) → is_named state.peers.acting (names_of state.peers.seats) ≡ true → IsGroup (taken_over_by device fresh (caught_seats catching state.peers.seats) (caught_hand catching hand) (caught_lines catching state.world.core.answered hand) (group_at state.peers.seats hand state)).state
+  over-good state hand catching fresh names acts =
       let past = state.world.core.answered in
       let seats = caught_seats catching state.peers.seats in
       let count = count_fallen device fresh (committed_by past (caught_hand catching hand)) seats in
       let acting = next_of state.peers.acting count (named (takes fresh) seats) in
       let same = names-over catching (takes fresh) count acting state.peers.seats in
+      let caught = names-caught catching state.peers.seats in
       record {
         agree = all-at (Agree Empty) (Agree Empty) acting (λ stance. Out) (λ stance agree. tt) (λ stance agree. agree) (on_seats rejoined (felled (takes fresh) count seats)) (all-made (Agree Empty) rejoined rejoined-agrees (felled (takes fresh) count seats));
         waits = tt;
         armed = tt;
         apart = apart-out acting (on_seats rejoined (felled (takes fresh) count seats));
         names = subst AreNames (sym same) names;
+        acts = ap (is_named acting) (same ∙ sym caught) ∙ next-named (takes fresh) state.peers.acting count seats (subst AreNames (sym caught) names) (ap (is_named state.peers.acting) caught ∙ acts);
       }
 
-  over-nears : (state : State Peers) (entry : Entry) (fresh : Bool) → AreNames (names_of state.peers.seats) → Nears plain R (group_at state.peers.seats (Ready entry) state) (taken_over_by device fresh state.peers.seats (Ready entry) [] (group_at state.peers.seats (Ready entry) state))
-  over-nears state entry fresh names =
+  over-nears : (state : State Peers) (entry : Entry) (fresh : Bool) → AreNames (names_of state.peers.seats) → is_named state.peers.acting (names_of state.peers.seats) ≡ true → Nears plain R (group_at state.peers.seats (Ready entry) state) (taken_over_by device fresh state.peers.seats (Ready entry) [] (group_at state.peers.seats (Ready entry) state))
+  over-nears state entry fresh names acts =
       let past = state.world.core.answered in
       let count = count_fallen device fresh (entry ∷ past) state.peers.seats in
       let acting = next_of state.peers.acting count (named (takes fresh) state.peers.seats) in
       let none = weights-rejoined acting (felled (takes fresh) count state.peers.seats) in
       record {
         steps = record {
-          good = over-good state (Ready entry) false fresh names;
+          good = over-good state (Ready entry) false fresh names acts;
           done = refl;
           agents = refl;
           stays = record { net = λ message stands. stands; answered = (entry ∷ [], refl); clients = refl; now = refl; places = refl };
@@ -313,6 +334,7 @@ module _ (plain : Plain) (is_plain : IsPlain plain) (device : Device) (R : World
             armed = worked-armed (any_seat is_standby seats) seats state.peers.armed calls fails refl not good.armed;
             apart = apart-on state.peers.acting linked refl seats good.apart;
             names = subst AreNames (sym (names-on linked seats)) good.names;
+            acts = ap (is_named state.peers.acting) (names-on linked seats) ∙ good.acts;
           };
           done = refl;
           agents = refl;
@@ -325,7 +347,7 @@ module _ (plain : Plain) (is_plain : IsPlain plain) (device : Device) (R : World
       }
 
   work-as : (state : State Peers) (entry : Entry) (fell : Bool) → falls device state.world.core.answered entry state.peers ≡ fell → IsGroup (group_at state.peers.seats (Ready entry) state) → Nears plain R (group_at state.peers.seats (Ready entry) state) (work_as plain device entry fell (group_at state.peers.seats (Ready entry) state))
-  work-as state entry true is good = over-nears state entry (any_seat is_fresh state.peers.seats) good.names
+  work-as state entry true is good = over-nears state entry (any_seat is_fresh state.peers.seats) good.names good.acts
   work-as state entry false is good =
       let past = state.world.core.answered in
       let calls = device.calls past entry in

@@ -13,7 +13,8 @@ use Rattle.cluster_events.specs.Running.{Shelf}
 use Rattle.cluster_events.specs.Serving.{IsSteady, IsCarried}
 use Rattle.cluster_events.proofs.Carrying.{IsTold}
 use Rattle.cluster_events.proofs.Walking.{ByKind, Others, kind_of, IsShow, IsByKind, line-walks}
-use Rattle.group_cluster.specs.Seats.{Peers, IsGroup, is_standby, any_seat, same_server, stance_of}
+use Rattle.group_cluster.specs.Seats.{Peers, IsGroup, is_standby, any_seat, same_server}
+use Rattle.group_cluster.specs.Falling.{can_join}
 use Rattle.group_cluster.specs.Group.{group}
 use Rattle.group_cluster.specs.Running.{GroupHappens}
 use Rattle.group_cluster.proofs.Answering.{answer-goes}
@@ -55,6 +56,6 @@ module _ (plain : Plain) (is_plain : IsPlain plain) (shelf : Shelf) (device : De
   group-walks line.Disarm state outcome steady happens =
       subst (Walks line.Disarm state) (sym happens) (disarm-keeps plain is_plain device (R Others) bears state steady)
   group-walks (line.Restart server) state outcome steady happens =
-      subst (Walks (line.Restart server) state) (sym happens) (restart-keeps plain is_plain device (R Others) bears server (same_server server state.peers.acting) (stance_of server state.peers.seats) state refl steady)
+      subst (Walks (line.Restart server) state) (sym happens) (restart-keeps plain is_plain device (R Others) bears server (can_join server state.peers) state refl steady)
   group-walks next state outcome steady happens =
       line-walks plain is_plain shelf (group plain device) IsGroup (group-serves plain device is_plain) R carried (group-stepped plain is_plain device (R Others) bears) by_kind next state outcome steady happens

@@ -13,7 +13,7 @@ use Rattle.cluster_events.specs.Cores.{with_core}
 use Rattle.cluster_events.specs.Servers.{State}
 use Rattle.cluster_events.specs.Devices.{Device}
 use Rattle.group_cluster.specs.Seats.{Clear, Sent, Took, Stance, Out, Owed, Linking, Standby, Seat, Peers, is_standby, is_sent, is_took}
-use Rattle.group_cluster.specs.Seats.{any_seat, count_seats, on_seats, same_server, stance_of, standing_group}
+use Rattle.group_cluster.specs.Seats.{any_seat, count_seats, on_seats, same_server, stance_of, is_out_at, standing_group}
 
 -- the event of a line is refused
 abbrev pub refused : Line → State Peers → Outcome (State Peers)
@@ -236,12 +236,13 @@ joined server state = record {
   peers = record state.peers { seats = set_at server (back_by state.world.core.hand) state.peers.seats };
 }
 
--- `restart S`: refused where S is not down
-abbrev pub restart_by : Server → Bool → Stance → State Peers → Outcome (State Peers)
-restart_by server true stance state = refused (line.Restart server) state
-restart_by server false Out state = telling (joined server state) (Stood server role.Joining)
-restart_by server false stance state = refused (line.Restart server) state
+-- `restart S`: refused where S is active or not down, and where it is none of the servers
+abbrev pub can_join : Server → Peers → Bool
+can_join server peers = not (same_server server peers.acting) && is_out_at server peers.seats
+
+abbrev pub restart_by : Server → Bool → State Peers → Outcome (State Peers)
+restart_by server true state = telling (joined server state) (Stood server role.Joining)
+restart_by server false state = refused (line.Restart server) state
 
 abbrev pub restart : Server → State Peers → Outcome (State Peers)
-restart server state =
-    restart_by server (same_server server state.peers.acting) (stance_of server state.peers.seats) state
+restart server state = restart_by server (can_join server state.peers) state

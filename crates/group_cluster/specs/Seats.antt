@@ -1,6 +1,6 @@
 -- Words of public clauses: servers of which one is active, and what is on the way between it and the others.
-use Rattle.std.specs.Prelude.{◌≡◌, ℕ, suc, ◌+◌, ◌≤◌, Bool, true, false, ◌||◌, if◌then◌else◌, Option, Some, None, List, [], ◌∷◌, ◌++◌, length}
-use Rattle.std.specs.List.{AllByRecursion}
+use Rattle.std.specs.Prelude.{◌≡◌, ℕ, suc, ◌+◌, ◌≤◌, Bool, true, false, ◌||◌, not, if◌then◌else◌, Option, Some, None, List, [], ◌∷◌, ◌++◌, length}
+use Rattle.std.specs.List.{AllByRecursion, list_any}
 use Rattle.script_lines.specs.declared.line.Server.{Server}
 use Rattle.script_lines.specs.declared.line.Server.TheVariants.{A, B}
 use Rattle.cluster_facts.specs.Types.{Entry}
@@ -43,6 +43,10 @@ pub record Peers : Type 0 where
   pub armed : Option ℕ
 
 -- Tests.
+
+abbrev pub is_up : Stance → Bool
+is_up Out = false
+is_up _ = true
 
 abbrev pub is_standby : Stance → Bool
 is_standby (Standby on_way mark keeps) = true
@@ -145,11 +149,16 @@ same_server _ _ = false
 abbrev pub IsApart : Server → List Seat → Type 0
 IsApart acting seats = AllByRecursion (λ (seat : Seat). same_server seat.server acting ≡ true → seat.stance ≡ Out) seats
 
--- two servers, each once
+-- the servers' names, in order
 abbrev pub names_of : List Seat → List Server
 names_of [] = []
 names_of (seat ∷ seats) = seat.server ∷ names_of seats
 
+-- whether a server is one of these
+abbrev pub is_named : Server → List Server → Bool
+is_named server names = list_any (same_server server) names
+
+-- two servers, each once
 abbrev pub AreNames : List Server → Type 0
 AreNames names = names ≡ A ∷ B ∷ []
 
@@ -160,6 +169,8 @@ pub record IsGroup (state : State Peers) : Type 0 where
   pub armed : IsArmed state.peers.armed state.peers.seats
   pub apart : IsApart state.peers.acting state.peers.seats
   pub names : AreNames (names_of state.peers.seats)
+  -- the active server is one of them
+  pub acts : is_named state.peers.acting (names_of state.peers.seats) ≡ true
 
 -- Names and roles.
 
@@ -167,6 +178,11 @@ pub record IsGroup (state : State Peers) : Type 0 where
 abbrev pub stance_of : Server → List Seat → Stance
 stance_of server [] = Out
 stance_of server (seat ∷ seats) = if same_server server seat.server then seat.stance else stance_of server seats
+
+-- whether a server of this name is there, and out
+abbrev pub is_out_at : Server → List Seat → Bool
+is_out_at server [] = false
+is_out_at server (seat ∷ seats) = if same_server server seat.server then not (is_up seat.stance) else is_out_at server seats
 
 abbrev pub role_of_active : Option ℕ → ServerRole
 role_of_active None = role.Active

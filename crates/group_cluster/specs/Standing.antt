@@ -10,13 +10,9 @@ use Rattle.cluster_events.specs.Serving.{IsSteady}
 use Rattle.cluster_events.specs.Devices.{Device}
 use Rattle.cluster_events.specs.Ending.{is_crash}
 use Rattle.cluster_events.specs.Running.{Shelf}
-use Rattle.group_cluster.specs.Seats.{Stance, Out, Seat, Peers, IsGroup, is_standby, any_seat, same_server, stance_of}
+use Rattle.group_cluster.specs.Seats.{Seat, Peers, IsGroup, is_up, is_standby, any_seat, same_server, stance_of}
 use Rattle.group_cluster.specs.Falling.{crash, taken_over}
 use Rattle.group_cluster.specs.Running.{GroupHappens}
-
-abbrev pub is_up : Stance → Bool
-is_up Out = false
-is_up _ = true
 
 -- a server is active, or not down
 abbrev pub is_up_in : Peers → Server → Bool

@@ -23,11 +23,11 @@ use Rattle.mirror.specs.declared.state.NodeState.{NodeState as Node}
 use Rattle.mirror.proofs.ReplicaLaws.{count-is}
 use Rattle.lead_server.specs.Parting.{waiting_in, waiting_lines}
 use Rattle.group_cluster.specs.Seats as defined
-use Rattle.group_cluster.specs.Seats.{Peers, any_seat, count_seats, same_server, is_standby}
+use Rattle.group_cluster.specs.Seats.{Peers, any_seat, count_seats, is_named, names_of, same_server, is_standby}
 use Rattle.group_cluster.specs.Falling.{catches, caught, caught_seats, caught_hand, caught_lines, is_fresh, crash, crash_active, crash_by, takes, taken_over}
 use Rattle.group_cluster.specs.Ended.{HasCalls}
 use Rattle.group_cluster.proofs.Crashing.{caught-standby as stands-caught}
-use Rattle.group_cluster.proofs.Seating.{any-none, apart-caught, any-on, same-is}
+use Rattle.group_cluster.proofs.Seating.{any-none, apart-caught, any-on, names-caught, same-is}
 use Rattle.group_cluster.proofs.Sounding.{caught-accepts}
 use Rattle.cluster_clients.specs.Clients.{ShowsAgents}
 use Rattle.cluster_clients.specs.Spelled.{AreSpelled}
@@ -64,7 +64,7 @@ use Rattle.group_servers.proofs.DealSteps.{sum-none}
 use Rattle.group_servers.proofs.DeliverSteps.{MayCome}
 use Rattle.group_servers.proofs.EndSteps.{ended-as}
 use Rattle.group_servers.proofs.FallLines.{takers-named, takers-wayless}
-use Rattle.group_servers.proofs.FallShows.{TellsCount, names-caught}
+use Rattle.group_servers.proofs.FallShows.{TellsCount}
 use Rattle.group_servers.proofs.FallSteps.{wayless-bare, caught-bare, fit-seats, few-of, few-standbys, count-some, tried, failed-are, took-own, took-lines, took-unarmed, took-files, plain-good, stale, fell-fell, fell-lines, fell-last, fell-calls, fell-files, all-tried, named-long}
 use Rattle.group_servers.proofs.GoodSteps.{answered-history, accepted-history}
 use Rattle.group_servers.proofs.GroupFiles.{rest-goes-on}
@@ -217,7 +217,8 @@ module _ (n : ℕ) where
 
     few : count_seats is_standby owns ≤ 1
     few =
-        few-standbys state.peers.acting owns (names-caught catching_so state.peers.seats ∙ good.steady.good.names) (apart-caught state.peers.acting catching_so state.peers.seats good.steady.good.apart)
+        let same : names_of owns ≡ names_of state.peers.seats = names-caught catching_so state.peers.seats in
+        few-standbys state.peers.acting owns (same ∙ good.steady.good.names) (ap (is_named state.peers.acting) same ∙ good.steady.good.acts) (apart-caught state.peers.acting catching_so state.peers.seats good.steady.good.apart)
 
     -- those that may take over make the calls of the deeds that are kept
     kept-long : length (row_calls setup fresh history) ≡ kept_calls (device_by setup (λ number. 0)) state
@@ -354,7 +355,7 @@ module _ (n : ℕ) where
           let last = fell-last n setup state good (fell mid.servers) new.servers fresh prepared.front after held left seats-are fresh-so acting-is refl all some in
           let calls = fell-calls n setup state good (fell mid.servers) new.servers fresh prepared.front after held left seats-are fresh-so acting-is refl all some in
           let none = fresh-so ∙ stale n setup state good (fell mid.servers) new.servers fresh prepared.front after held left seats-are fresh-so acting-is refl all in
-          let one = few-standbys state.peers.acting state.peers.seats good.steady.good.names good.steady.good.apart in
+          let one = few-standbys state.peers.acting state.peers.seats good.steady.good.names good.steady.good.acts good.steady.good.apart in
           ended-as n setup state old new before after held left good shows
           (λ happened end. EndsLine (group_kit n) group_script (line.Crash state.peers.acting) setup happened state end)
           (λ happened end. FaultsLine setup (line.Crash state.peers.acting) happened state end.state (counters_of held) (counters_of left)) printed (λ number. 0)

@@ -24,9 +24,8 @@ use Rattle.cluster_events.specs.Servers.{State}
 use Rattle.event_text.specs.Texts.{server_line}
 use Rattle.mirror.specs.declared.state.NodeState.{NodeState as Node}
 use Rattle.group_cluster.specs.Seats as defined
-use Rattle.group_cluster.specs.Seats.{Stance, Out, Owed, Linking, Standby, Peers, Agree, IsArmed, IsGroup, any_seat, is_sent, is_standby, names_of, same_server, stance_of}
-use Rattle.group_cluster.specs.Falling.{arm_by, armed_with, crash, crash_active, crash_by, crash_other, is_served, joined, other_down, out_at, refused, restart_by}
-use Rattle.group_cluster.specs.Standing.{is_up}
+use Rattle.group_cluster.specs.Seats.{Stance, Out, Owed, Linking, Standby, Peers, Agree, IsArmed, IsGroup, any_seat, is_out_at, is_sent, is_standby, is_up, names_of, same_server, stance_of}
+use Rattle.group_cluster.specs.Falling.{arm_by, armed_with, crash, crash_active, crash_by, crash_other, is_served, joined, can_join, other_down, out_at, refused, restart_by}
 use Rattle.group_cluster.proofs.Lines.{crash-keeps, restart-keeps}
 use Rattle.group_cluster.proofs.Seating.{all-at}
 use Rattle.group_cluster.proofs.Sounding.{looked-accepts}
@@ -46,7 +45,7 @@ use Rattle.group_servers.specs.GroupLaws.{unasked-borne}
 use Rattle.group_servers.specs.GroupNodes.{seats_by}
 use Rattle.group_servers.specs.GroupScript.{calm-uses}
 use Rattle.group_servers.specs.GroupUses.{spent-none}
-use Rattle.group_servers.specs.Parted.{Begins, DropsAt, follows, is_standby_other, is_up_one, joined_at, leads, lost_entry, lost_lines, rests, settled_by}
+use Rattle.group_servers.specs.Parted.{Begins, DropsAt, follows, is_down_at, is_standby_other, is_up_one, joined_at, leads, lost_entry, lost_lines, rests, settled_by}
 use Rattle.group_servers.specs.Prepared.{with_servers}
 use Rattle.group_servers.specs.Seats as code
 use Rattle.group_servers.specs.Steps.{armed_by, crashed_by, disarmed_by, parted_by, refused_by, restarted_by}
@@ -54,7 +53,7 @@ use Rattle.group_servers.proofs.ConfirmSteps.{links-agree}
 use Rattle.group_servers.proofs.CrashSteps.{both-true, leads-shown}
 use Rattle.group_servers.proofs.JoinSteps.{Joins, joined-seats, joins-by}
 use Rattle.group_servers.proofs.LookSteps.{looked-seats}
-use Rattle.group_servers.proofs.NameSteps.{names-all, names-once, others-are, up-is}
+use Rattle.group_servers.proofs.NameSteps.{down-is, names-once, others-are, out-there, up-is}
 use Rattle.group_servers.proofs.PartSteps.{Dropped, Lost, drops-are, lost-is, settled-is}
 use Rattle.group_servers.proofs.SeatSteps.{goes-is, linked-is, waits-is}
 
@@ -83,20 +82,6 @@ crash-down server false (Linking sent) state up is = cc
 crash-down server false (Standby on_way mark keeps) state up is = cc
 crash-down server served Out state up is = cc
 
-restart-refused : (server : Server) (same : Bool) (stance : Stance) (state : State Peers) → (not same && not (is_up stance)) ≡ false → restart_by server same stance state ≡ refused (line.Restart server) state
-restart-refused server true stance state is = refl
-restart-refused server false Out state is = cc
-restart-refused server false Owed state is = refl
-restart-refused server false (Linking sent) state is = refl
-restart-refused server false (Standby on_way mark keeps) state is = refl
-
-restart-joins : (server : Server) (same : Bool) (stance : Stance) (state : State Peers) → (not same && not (is_up stance)) ≡ true → restart_by server same stance state ≡ record { state = joined server state; told = Stood server role.Joining ∷ [] }
-restart-joins server false Out state is = refl
-restart-joins server false Owed state is = cc
-restart-joins server false (Linking sent) state is = cc
-restart-joins server false (Standby on_way mark keeps) state is = cc
-restart-joins server true stance state is = cc
-
 module _ (n : ℕ) where
   -- What the code tests of the servers, and what it is of the state.
 
@@ -119,8 +104,13 @@ module _ (n : ℕ) where
     pub follows-shown : follows server old.servers ≡ ((not (same_server server state.peers.acting) && is_up (stance_of server state.peers.seats)) && is_served state.peers.armed (out_at server state.peers.seats))
     follows-shown = λ i. (not (same-shown i) && up-shown i) && served-shown i
 
-    pub rests-shown : rests server old.servers ≡ (not (same_server server state.peers.acting) && not (is_up (stance_of server state.peers.seats)))
-    rests-shown = λ i. not (same-shown i) && not (up-shown i)
+    down-shown : is_down_at server old.servers.seats ≡ is_out_at server state.peers.seats
+    down-shown =
+        let core = state.world.core in
+        ap (λ (servers : Group n). is_down_at server servers.seats) shows.own ∙ down-is setup core.answered core.hand server state.peers.seats
+
+    pub rests-shown : rests server old.servers ≡ can_join server state.peers
+    rests-shown = λ i. not (same-shown i) && down-shown i
 
   abbrev HappenedAs : Setup → Cluster (Group n) → List (List ℕ) → List (List ℕ) → Outcome (State Peers) → Type 0
   HappenedAs setup new before after outcome = Happened (group_kit n) setup outcome new before after
@@ -149,7 +139,7 @@ module _ (n : ℕ) where
 
   pub restart-refuses : (server : Server) (world : Cluster (Group n)) (before after : List (List ℕ)) → rests server world.servers ≡ false → Does (group_kit n) (refused_by n (line.Restart server)) world world before after → Does (group_kit n) (restarted_by n server) world world before after
   restart-refuses server world before after not_rests does setup state good shows =
-      let is = restart-refused server (same_server server state.peers.acting) (stance_of server state.peers.seats) state (sym (rests-shown setup state world good shows server) ∙ not_rests) in
+      let is : restarted_by n server setup state ≡ refused (line.Restart server) state = ap (λ b. restart_by server b state) (sym (rests-shown setup state world good shows server) ∙ not_rests) in
       subst (HappenedAs setup world before after) (sym is) (does setup state good shows)
 
   -- `crash` of a server that is not active.
@@ -242,7 +232,7 @@ module _ (n : ℕ) where
       let group = good.steady.good in
       record {
         begins = good.begins;
-        steady = record { sound = good.steady.sound; good = record { agree = group.agree; waits = group.waits; armed = is; apart = group.apart; names = group.names } };
+        steady = record { sound = good.steady.sound; good = record { agree = group.agree; waits = group.waits; armed = is; apart = group.apart; names = group.names; acts = group.acts } };
         range = good.range;
         moment = good.moment;
       }
@@ -288,13 +278,14 @@ module _ (n : ℕ) where
       let hand = state.world.core.hand in
       let owns = state.peers.seats in
       let plain = plain_of setup in
-      let both = both-true (not (same_server server state.peers.acting)) (not (is_up (stance_of server owns))) (sym (rests-shown setup state old good shows server) ∙ so) in
-      let out = not-true (is_up (stance_of server owns)) both.1 in
-      let is = restart-joins server (same_server server state.peers.acting) (stance_of server owns) state (sym (rests-shown setup state old good shows server) ∙ so) in
+      let back : can_join server state.peers ≡ true = sym (rests-shown setup state old good shows server) ∙ so in
+      let there = out-there server owns (both-true (not (same_server server state.peers.acting)) (is_out_at server owns) back).1 in
+      let out = there.1 in
+      let is : restarted_by n server setup state ≡ record { state = joined server state; told = Stood server role.Joining ∷ [] } = ap (λ b. restart_by server b state) back in
       let once = names-once (names_of owns) good.steady.good.names in
-      let joins : Joins setup past hand server owns messages active = joins-by setup past hand server owns messages active (names-all (names_of owns) server good.steady.good.names) out (subst (λ (node : Node). Begins node active messages) (ap (λ (servers : Group n). servers.active) shows.own) begins) in
+      let joins : Joins setup past hand server owns messages active = joins-by setup past hand server owns messages active there.0 out (subst (λ (node : Node). Begins node active messages) (ap (λ (servers : Group n). servers.active) shows.own) begins) in
       let seats = are ∙ ap (λ (servers : Group n). joined_at server messages servers.seats) shows.own ∙ joined-seats setup past hand server messages owns once out joins.sent in
-      let keeps = restart-keeps plain (is_plain setup) (device_by setup (λ number. 0)) (SaysUnasked plain) (unasked-borne plain) server (same_server server state.peers.acting) (stance_of server owns) state refl good.steady in
+      let keeps = restart-keeps plain (is_plain setup) (device_by setup (λ number. 0)) (SaysUnasked plain) (unasked-borne plain) server (can_join server state.peers) state refl good.steady in
       let S : Outcome (State Peers) → Type 0 = λ o. IsSteady plain IsGroup o.state in
       let new = with_servers old (record old.servers { active = active; seats = news }) in
       let does : Happened (group_kit n) setup (record { state = joined server state; told = Stood server role.Joining ∷ [] }) new before after = (

@@ -14,8 +14,7 @@ use Rattle.group_cluster.specs.Seats as defined
 use Rattle.group_cluster.specs.Seats.{Stance, Out, Owed, Linking, Standby, Peers, AreNames, Agree, same_server, on_seats, names_of, any_seat}
 use Rattle.group_cluster.specs.Falling.{catches, caught_seats, caught_hand, is_fresh, out_at, rejoined, felled, named, next_of, takes, count_fallen}
 use Rattle.group_cluster.specs.Falling as falling
-use Rattle.group_cluster.proofs.Seating.{AllSeats, any-none, names-on, names-felled, same-turned}
-use Rattle.group_cluster.specs.Falling.{caught}
+use Rattle.group_cluster.proofs.Seating.{AllSeats, any-none, names-caught, names-felled, same-turned}
 use Rattle.group_servers.specs.declared.group.Seat.{Seat}
 use Rattle.group_servers.specs.declared.group.Group.{Group}
 use Rattle.cluster_rounds.specs.Kits.{device_by}
@@ -77,10 +76,6 @@ felled-follow past hand test (suc count) (own ∷ owns) follow = by (test own.st
 -- names are distinct
 names-distinct : (names : List Server) → AreNames names → AreDistinct names
 names-distinct names two = subst AreDistinct (sym two) ((refl, tt), (tt, tt))
-
-pub names-caught : (catching : Bool) (owns : List defined.Seat) → names_of (caught_seats catching owns) ≡ names_of owns
-names-caught true owns = names-on caught owns
-names-caught false owns = refl
 
 -- The one that took over is tied to the others exactly where some is not down.
 

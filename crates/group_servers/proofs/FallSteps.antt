@@ -25,7 +25,7 @@ use Rattle.mirror.specs.declared.state.NodeState.{NodeState as Node}
 use Rattle.mirror.specs.Replicas.{down}
 use Rattle.mirror.specs.Pairing.{alone}
 use Rattle.group_cluster.specs.Seats as defined
-use Rattle.group_cluster.specs.Seats.{Clear, Sent, Took, Stance, Out, Owed, Linking, Standby, Peers, AreNames, IsApart, any_seat, count_seats, on_seats, names_of, same_server, is_standby}
+use Rattle.group_cluster.specs.Seats.{Clear, Sent, Took, Stance, Out, Owed, Linking, Standby, Peers, AreNames, IsApart, any_seat, is_named, count_seats, on_seats, names_of, same_server, is_standby}
 use Rattle.group_cluster.specs.Falling.{catches, caught, caught_seats, caught_hand, caught_lines, is_fresh, is_joining, takes, felled, named, front_of, next_of, count_fallen, all_stood, taken_over}
 use Rattle.group_cluster.specs.Ended.{left_out, ended}
 use Rattle.group_cluster.proofs.Seating.{any-none}
@@ -238,15 +238,15 @@ few-by one two (inr out) = subst (λ (s : Stance). (if is_standby one then 1 els
     at-most true = omega arith
     at-most false = omega arith
 
-out-of : (acting : Server) (one two : defined.Seat) → one.server ≡ A → two.server ≡ B → IsApart acting (one ∷ two ∷ []) → (one.stance ≡ Out) ⊎ (two.stance ≡ Out)
-out-of A one two first second apart = inl (apart.0 (ap (λ (s : Server). same_server s A) first))
-out-of B one two first second apart = inr (apart.1.0 (ap (λ (s : Server). same_server s B) second))
+out-of : (acting : Server) (one two : defined.Seat) → one.server ≡ A → two.server ≡ B → is_named acting (one.server ∷ two.server ∷ []) ≡ true → IsApart acting (one ∷ two ∷ []) → (one.stance ≡ Out) ⊎ (two.stance ≡ Out)
+out-of A one two first second acts apart = inl (apart.0 (ap (λ (s : Server). same_server s A) first))
+out-of B one two first second acts apart = inr (apart.1.0 (ap (λ (s : Server). same_server s B) second))
 
-pub few-standbys : (acting : Server) (owns : List defined.Seat) → AreNames (names_of owns) → IsApart acting owns → count_seats is_standby owns ≤ 1
-few-standbys acting [] names apart = cc
-few-standbys acting (one ∷ []) names apart = cc
-few-standbys acting (one ∷ two ∷ []) names apart = few-by one.stance two.stance (out-of acting one two (first-of names) (first-of (rest-of names)) apart)
-few-standbys acting (one ∷ two ∷ three ∷ owns) names apart = cc
+pub few-standbys : (acting : Server) (owns : List defined.Seat) → AreNames (names_of owns) → is_named acting (names_of owns) ≡ true → IsApart acting owns → count_seats is_standby owns ≤ 1
+few-standbys acting [] names acts apart = cc
+few-standbys acting (one ∷ []) names acts apart = cc
+few-standbys acting (one ∷ two ∷ []) names acts apart = few-by one.stance two.stance (out-of acting one two (first-of names) (first-of (rest-of names)) acts apart)
+few-standbys acting (one ∷ two ∷ three ∷ owns) names acts apart = cc
 
 pub few-of : (fresh : Bool) (owns : List defined.Seat) → count_seats (takes fresh) owns ≤ count_seats is_standby owns
 few-of false owns = le_refl (count_seats is_standby owns)

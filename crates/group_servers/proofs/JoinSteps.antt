@@ -11,9 +11,8 @@ use Rattle.mirror.specs.declared.state.NodeState.{NodeState as Node}
 use Rattle.mirror.specs.declared.node.Tie.TheVariants.{Apart, Linked}
 use Rattle.mirror.specs.Pairing.{alone, joining}
 use Rattle.group_cluster.specs.Seats as defined
-use Rattle.group_cluster.specs.Seats.{Stance, Out, Owed, Linking, Standby, any_seat, link_of, names_of, same_server, stance_of}
+use Rattle.group_cluster.specs.Seats.{Stance, Out, Owed, Linking, Standby, any_seat, is_up, link_of, names_of, same_server, stance_of}
 use Rattle.group_cluster.specs.Falling.{back_by, joining_by, set_at}
-use Rattle.group_cluster.specs.Standing.{is_up}
 use Rattle.group_cluster.proofs.Seating.{any-at}
 use Rattle.group_servers.specs.declared.group.Seat.{Seat}
 use Rattle.group_servers.specs.GroupNodes.{active_by, is_linked, seat_by, seats_by, to_server}

@@ -1,19 +1,18 @@
 -- Servers by their names: each stands once.
 use Rattle.std.proofs.Common.{◌≡◌, Bool, true, false, ◌&&◌, ◌||◌, not, if◌then◌else◌, List, [], ◌∷◌, refl, ap, sym, ◌∙◌, subst}
 use Rattle.std.specs.List.{AllByRecursion, list_any}
+use Rattle.std.proofs.lemmas.Bool.{not-true}
 use Rattle.script_lines.specs.declared.line.Server.{Server}
-use Rattle.script_lines.specs.declared.line.Server.TheVariants.{A, B}
 use Rattle.plain_service.specs.Setups.{Setup}
 use Rattle.cluster_facts.specs.Types.{Entry}
 use Rattle.cluster_facts.specs.History.{Hand}
 use Rattle.group_cluster.specs.Seats as defined
-use Rattle.group_cluster.specs.Seats.{Stance, Out, AreNames, any_seat, names_of, same_server, stance_of, is_standby}
+use Rattle.group_cluster.specs.Seats.{Stance, Out, AreNames, any_seat, is_named, is_out_at, is_up, names_of, same_server, stance_of, is_standby}
 use Rattle.group_cluster.specs.Falling.{set_at, out_at}
-use Rattle.group_cluster.specs.Standing.{is_up}
 use Rattle.group_cluster.proofs.Seating.{same-is}
 use Rattle.group_servers.specs.declared.group.Seat.{Seat}
 use Rattle.group_servers.specs.GroupNodes.{seat_by, seats_by}
-use Rattle.group_servers.specs.Parted.{is_up_one, is_standby_other}
+use Rattle.group_servers.specs.Parted.{is_down_at, is_up_one, is_standby_other}
 use Rattle.group_servers.specs.Seats as code
 use Rattle.group_servers.proofs.SeatSteps.{up-one, standby-one}
 
@@ -28,11 +27,6 @@ Once (server ∷ names) = IsAbsent server names × Once names
 
 pub names-once : (names : List Server) → AreNames names → Once names
 names-once names are = subst Once (sym are) ((refl, tt), (tt, tt))
-
--- and each name does
-pub names-all : (names : List Server) (server : Server) → AreNames names → list_any (same_server server) names ≡ true
-names-all names A are = ap (list_any (same_server A)) are
-names-all names B are = ap (list_any (same_server B)) are
 
 -- behind the one of a name there is none of it
 pub absent-behind : (server : Server) (own : defined.Seat) (owns : List defined.Seat) → same_server server own.server ≡ true → Once (names_of (own ∷ owns)) → IsAbsent server (names_of owns)
@@ -68,6 +62,24 @@ up-is setup past hand server (own ∷ owns) once = by (same_server server own.se
     by true is deeper =
         (λ i. up-one setup past hand own.stance i || up-none setup past hand server owns (absent-behind server own owns is once) i) ∙ or-nothing (is_up own.stance)
     by false is deeper = deeper
+
+-- **whether the server of a name is there, and down**
+pub down-is : (setup : Setup) (past : List Entry) (hand : Hand) (server : Server) (owns : List defined.Seat) → is_down_at server (seats_by setup past hand owns) ≡ is_out_at server owns
+down-is setup past hand server [] = refl
+down-is setup past hand server (own ∷ owns) = by (same_server server own.server) (down-is setup past hand server owns)
+  where
+    by : (b : Bool) → is_down_at server (seats_by setup past hand owns) ≡ is_out_at server owns → (if b then not (code.is_up (seat_by setup past hand own)) else is_down_at server (seats_by setup past hand owns)) ≡ (if b then not (is_up own.stance) else is_out_at server owns)
+    by true deeper = λ i. not (up-one setup past hand own.stance i)
+    by false deeper = deeper
+
+-- such a server is one of them
+pub out-there : (server : Server) (owns : List defined.Seat) → is_out_at server owns ≡ true → (is_named server (names_of owns) ≡ true) × (is_up (stance_of server owns) ≡ false)
+out-there server [] is = cc
+out-there server (own ∷ owns) is = by (same_server server own.server) is (out-there server owns)
+  where
+    by : (b : Bool) → (if b then not (is_up own.stance) else is_out_at server owns) ≡ true → (is_out_at server owns ≡ true → (is_named server (names_of owns) ≡ true) × (is_up (stance_of server owns) ≡ false)) → ((b || is_named server (names_of owns)) ≡ true) × (is_up (if b then own.stance else stance_of server owns) ≡ false)
+    by true is deeper = (refl, not-true (is_up own.stance) is)
+    by false is deeper = deeper is
 
 -- **whether another one is standby**
 pub others-are : (setup : Setup) (past : List Entry) (hand : Hand) (server : Server) (owns : List defined.Seat) → list_any (is_standby_other server) (seats_by setup past hand owns) ≡ any_seat is_standby (out_at server owns)

@@ -116,7 +116,7 @@ module _ (setup : Setup) (state : State Peers) where
           begins = good.begins;
           steady = record {
             sound = over-sound plain (is_plain setup) device (SaysUnasked plain) (unasked-borne plain) state.world past catching hand good.steady.sound;
-            good = over-good plain (is_plain setup) device (SaysUnasked plain) (unasked-borne plain) state hand catching fresh good.steady.good.names;
+            good = over-good plain (is_plain setup) device (SaysUnasked plain) (unasked-borne plain) state hand catching fresh good.steady.good.names good.steady.good.acts;
           };
           range = left-range past hand catching good.range;
           moment = good.moment;

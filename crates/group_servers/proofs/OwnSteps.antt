@@ -21,9 +21,9 @@ use Rattle.cluster_events.specs.Servers.{State}
 use Rattle.cluster_events.specs.Events.{step_or_refuse, refuse}
 use Rattle.event_text.specs.Texts.{printed}
 use Rattle.group_cluster.specs.Seats as defined
-use Rattle.group_cluster.specs.Seats.{Stance, Out, Owed, Linking, Standby, Peers, same_server, stance_of, is_standby}
+use Rattle.group_cluster.specs.Seats.{Peers, is_standby}
 use Rattle.group_cluster.specs.Group.{mirrored, confirmed, first_turn, step_by, work_by, work_as, falls}
-use Rattle.group_cluster.specs.Falling.{all_stood, catches, caught_lines, caught_seats, named, restart_by}
+use Rattle.group_cluster.specs.Falling.{all_stood, catches, caught_lines, caught_seats, can_join, named, restart_by}
 use Rattle.group_cluster.specs.Ended.{ended}
 use Rattle.cluster_clients.specs.Taken.{kept_lines}
 use Rattle.cluster_events.specs.Devices.{Device}
@@ -69,12 +69,9 @@ module _ (n : ℕ) where
   step-keeps setup state line None = record { armed = λ seen armed. armed; tells = λ seen tells. tells }
   step-keeps setup state line (Some turned) = record { armed = λ seen armed. armed; tells = λ seen tells. tells }
 
-  restart_by-keeps : (setup : Setup) (server : Server) (same : Bool) (stance : Stance) (state : State Peers) → KeepsIt setup state (restart_by server same stance state)
-  restart_by-keeps setup server true stance state = record { armed = λ seen armed. armed; tells = λ seen tells. tells }
-  restart_by-keeps setup server false Out state = record { armed = λ seen armed. armed; tells = λ seen tells. tells }
-  restart_by-keeps setup server false Owed state = record { armed = λ seen armed. armed; tells = λ seen tells. tells }
-  restart_by-keeps setup server false (Linking sent) state = record { armed = λ seen armed. armed; tells = λ seen tells. tells }
-  restart_by-keeps setup server false (Standby on_way mark keeps) state = record { armed = λ seen armed. armed; tells = λ seen tells. tells }
+  restart_by-keeps : (setup : Setup) (server : Server) (back : Bool) (state : State Peers) → KeepsIt setup state (restart_by server back state)
+  restart_by-keeps setup server true state = record { armed = λ seen armed. armed; tells = λ seen tells. tells }
+  restart_by-keeps setup server false state = record { armed = λ seen armed. armed; tells = λ seen tells. tells }
 
   module _ {T E : Type 0} (r : Result T E) (s : Result T DiskAnswer) (next : Line) (old new : Cluster (Group n)) (before after : List (List ℕ)) (held : DiskSeen) where
     pub mirror-line : next ≡ line.Mirror → EndsAs r s → (HasStateOn (group_kit n)) any_state old held → OnOk r ((Does (group_kit n)) (mirrored_next n) old new before after) → OnErr r ((BreaksAlone (group_kit n)) old new) → PlaysLine (group_kit n) group_script s next old new before after held held
@@ -90,7 +87,7 @@ module _ (n : ℕ) where
     pub restart-line : (server : Server) → next ≡ line.Restart server → EndsAs r s → (HasStateOn (group_kit n)) any_state old held → OnOk r ((Does (group_kit n)) (restarted_by n server) old new before after) → OnErr r ((BreaksAlone (group_kit n)) old new) → PlaysLine (group_kit n) group_script s next old new before after held held
     restart-line server is same has does breaks =
         subst (λ (next : Line). PlaysLine (group_kit n) group_script s next old new before after held held) (sym is)
-        ((alone-line (group_kit n) (group_laws n) group_script (group_follows n)) r s (line.Restart server) (restarted_by n server) old new before after held same has (λ setup state good shows count. refl) (λ setup state good shows count. calm-uses setup (line.Restart server) state _ held held refl (spent-none (counters_of held))) (λ setup state. restart_by-keeps setup server (same_server server state.peers.acting) (stance_of server state.peers.seats) state) does breaks)
+        ((alone-line (group_kit n) (group_laws n) group_script (group_follows n)) r s (line.Restart server) (restarted_by n server) old new before after held same has (λ setup state good shows count. refl) (λ setup state good shows count. calm-uses setup (line.Restart server) state _ held held refl (spent-none (counters_of held))) (λ setup state. restart_by-keeps setup server (can_join server state.peers) state) does breaks)
 
   -- Where a line ends by a fault all its lines are printed.
 

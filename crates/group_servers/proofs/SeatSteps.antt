@@ -7,10 +7,9 @@ use Rattle.cluster_facts.specs.Types.{Entry}
 use Rattle.cluster_facts.specs.History.{Hand, Empty, Waiting, Applied, Ready}
 use Rattle.lead_server.specs.Roles.{stands_by, stays_down}
 use Rattle.group_cluster.specs.Seats as defined
-use Rattle.group_cluster.specs.Seats.{Mark, Clear, Sent, Took, Stance, Out, Owed, Linking, Standby, is_standby, is_sent, is_took, any_seat, Agree, WaitsFor}
+use Rattle.group_cluster.specs.Seats.{Mark, Clear, Sent, Took, Stance, Out, Owed, Linking, Standby, is_standby, is_sent, is_took, any_seat, is_up, Agree, WaitsFor}
 use Rattle.group_cluster.specs.Falling as falling
 use Rattle.group_cluster.specs.Falling.{catches}
-use Rattle.group_cluster.specs.Standing as standing
 use Rattle.group_cluster.proofs.Seating.{AllSeats}
 use Rattle.group_servers.specs.declared.group.Seat.{Seat}
 use Rattle.group_servers.specs.Seats as code
@@ -95,7 +94,7 @@ applied-one setup past hand server (Linking sent) agree = refl
 applied-one setup past hand server (Standby on_way mark keeps) agree =
     ap not (goes-one setup past hand server (Standby on_way mark keeps) agree) ∙ unsent-applied mark on_way keeps
 
-pub up-one : (setup : Setup) (past : List Entry) (hand : Hand) (stance : Stance) → not (stays_down (node_by setup past hand stance).replica.role) ≡ standing.is_up stance
+pub up-one : (setup : Setup) (past : List Entry) (hand : Hand) (stance : Stance) → not (stays_down (node_by setup past hand stance).replica.role) ≡ is_up stance
 up-one setup past hand Out = refl
 up-one setup past hand Owed = refl
 up-one setup past hand (Linking sent) = refl

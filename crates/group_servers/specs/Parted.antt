@@ -21,6 +21,11 @@ use Rattle.group_servers.specs.Seats.{is_up, stands_by}
 abbrev pub is_up_one : Server → Seat → Bool
 is_up_one server seat = same_server server seat.server && is_up seat
 
+-- the server of this name is there, and down
+abbrev pub is_down_at : Server → List Seat → Bool
+is_down_at server [] = false
+is_down_at server (seat ∷ seats) = if same_server server seat.server then not (is_up seat) else is_down_at server seats
+
 abbrev pub is_standby_other : Server → Seat → Bool
 is_standby_other server seat = stands_by seat && not (same_server server seat.server)
 
@@ -34,9 +39,9 @@ follows server servers =
     (not (same_server server servers.acting) && list_any (is_up_one server) servers.seats)
     && (not servers.armed || list_any (is_standby_other server) servers.seats)
 
--- it is not the active one, and is down
+-- it is another one than the active one, and is down
 abbrev pub rests : {n : ℕ} → Server → Group n → Bool
-rests server servers = not (same_server server servers.acting) && not (list_any (is_up_one server) servers.seats)
+rests server servers = not (same_server server servers.acting) && is_down_at server servers.seats
 
 -- A server goes down.
 

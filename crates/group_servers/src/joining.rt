@@ -9,7 +9,7 @@ ghost use Rattle.group_servers.specs.Parted.{leads, rests, Begins, joined_at};
 ghost use Rattle.group_servers.specs.GroupKit.{group_kit, group_script};
 ghost use Rattle.group_servers.specs.Steps.{armed_by, disarmed_by, restarted_by, IsUntold};
 
-use crate::seats::{any_standby, is_up_at, same_server};
+use crate::seats::{any_standby, is_down_at, same_server};
 use crate::standing::refused;
 use crate::{Group, Seat};
 use ais_values::Seq;
@@ -31,11 +31,11 @@ pub(crate) fn leads<const N: usize>(servers: &Group<N>, server: Server) -> bool
     same_server(server, servers.acting) && any_standby(&servers.seats)
 }
 
-/// Whether a server is not the active one, and is down.
+/// Whether a server is another one than the active one, and is down.
 fn rests<const N: usize>(servers: &Group<N>, server: Server) -> bool
     ensures { result ≡ rests server servers.now }
 {
-    !same_server(server, servers.acting) && !is_up_at(&servers.seats, server)
+    !same_server(server, servers.acting) && is_down_at(&servers.seats, server)
 }
 
 /// `arm S K`: the active server stops in the changing device call of this number from now on. The event is refused where the server is not the
@@ -138,7 +138,7 @@ fn join<const N: usize>(
     }
 }
 
-/// `restart S`: a server that is down joins. The event is refused where it is not down.
+/// `restart S`: a server that is down joins. The event is refused where it is not down, and where it is none of the servers.
 pub fn restart<const N: usize>(
     alloc: Global,
     world: &mut Cluster<Group<N>>,

@@ -1,7 +1,7 @@
 //! What servers beside the active one are, and what is on the way to them.
 ghost use Rattle.std.specs.Prelude.{◌≡◌, ◌&&◌, ◌||◌, not, List};
 ghost use Rattle.std.specs.List.{list_any};
-ghost use Rattle.group_servers.specs.Parted.{is_up_one, is_standby_other};
+ghost use Rattle.group_servers.specs.Parted.{is_down_at, is_up_one, is_standby_other};
 ghost use Rattle.group_cluster.specs.Seats.{same_server};
 ghost use Rattle.group_servers.specs.Seats.{has_link, has_back, is_entry, is_confirmation, entry_goes, confirms, goes_to, stands_by};
 ghost use Rattle.group_servers.specs.Seats.{is_fresh, has_applied, is_up, still_waits, is_last, catches};
@@ -208,6 +208,22 @@ fn is_up_one(server: Server, seat: &Seat) -> bool
     ensures { result ≡ is_up_one server seat.now }
 {
     same_server(server, seat.server) && is_up(seat)
+}
+
+/// Whether the server of this name is there, and down.
+pub(crate) fn is_down_at(seats: &[Seat], server: Server) -> bool
+    ensures { result ≡ is_down_at server seats.now }
+{
+    match seats.split_first() {
+        None => false,
+        Some((first, rest)) => {
+            if same_server(server, first.server) {
+                !is_up(first)
+            } else {
+                is_down_at(rest, server)
+            }
+        }
+    }
 }
 
 /// Whether a server is standby and has not this name.

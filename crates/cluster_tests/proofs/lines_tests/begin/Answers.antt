@@ -20,7 +20,7 @@ use Rattle.cluster_tests.proofs.lines_tests.begin.Goals as goal
 good : (setup : Setup) (callbacks : ℕ) → CanBegin setup → IsGood (group_kit 2) setup (state_of setup.start callbacks)
 good setup callbacks begins = record {
   begins = begins;
-  steady = record { sound = IsSound-start (plain_of setup) setup.start callbacks; good = record { agree = (tt, (tt, tt)); waits = tt; armed = tt; apart = (λ same. refl, (λ same. refl, tt)); names = refl } };
+  steady = record { sound = IsSound-start (plain_of setup) setup.start callbacks; good = record { agree = (tt, (tt, tt)); waits = tt; armed = tt; apart = (λ same. refl, (λ same. refl, tt)); names = refl; acts = refl } };
   range = tt;
   moment = begins.start;
 }
