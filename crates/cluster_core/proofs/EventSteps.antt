@@ -8,7 +8,7 @@ use Rattle.disk_model.specs.declared.answers.DiskAnswer.TheVariants.{Memory, Fai
 use Rattle.script_lines.specs.declared.line.Line.{Line}
 use Rattle.script_lines.specs.declared.line.Line.TheVariants as line
 use Rattle.script_lines.specs.declared.line.Server.{Server}
-use Rattle.script_lines.specs.declared.line.Server.TheVariants.{A, B}
+use Rattle.script_lines.specs.declared.line.Server.TheVariants.{A, B, C}
 use Rattle.wire.specs.declared.message.Message.{Message}
 use Rattle.plain_service.specs.Setups.{Setup}
 use Rattle.plain_service.specs.Storing.{files_of}
@@ -42,7 +42,7 @@ use Rattle.played_runs.specs.Views.{counters_of, files_alone}
 use Rattle.cluster_core.specs.Playing.{IsEventLine}
 use Rattle.played_runs.specs.Games.{DoesEvent, EndsEvent, FaultLeaves}
 use Rattle.cluster_core.specs.Parts.{BreaksWhole, PlaysWhole, acting_as, acting_in, other_seat, whole_of}
-use Rattle.cluster_core.proofs.TwoSeats.{AreBeside, fallen-beside, shown-beside, two-good, two_beside}
+use Rattle.cluster_core.proofs.TwoSeats.{AreBeside, IsOfTwo, fallen-beside, shown-beside, two-good, two_beside}
 
 -- Who is active.
 
@@ -58,16 +58,17 @@ active-acts setup past (Waiting entry) seats = refl
 active-acts setup past (Applied entry) seats = refl
 active-acts setup past (Ready entry) seats = refl
 
-acts-by : (acting : Server) (setup : Setup) (past : List Entry) (hand : Hand) (seats : List defined.Seat) (stance : Stance) (a b : Node) (link back : List Message) → named acting a b ≡ active_by setup past hand seats → seats_beside acting (unnamed acting a b) link back ≡ seats_by setup past hand (two_beside acting stance) → acting_as b.replica.role ≡ acting
-acts-by A setup past hand seats stance a b link back active others = ap (λ (s : List Seat). acting_as (other_seat A s).node.replica.role) others ∙ other-acts setup past hand stance
-acts-by B setup past hand seats stance a b link back active others = ap (λ (node : Node). acting_as node.replica.role) active ∙ active-acts setup past hand seats
+acts-by : (acting : Server) → IsOfTwo acting → (setup : Setup) (past : List Entry) (hand : Hand) (seats : List defined.Seat) (stance : Stance) (a b : Node) (link back : List Message) → named acting a b ≡ active_by setup past hand seats → seats_beside acting (unnamed acting a b) link back ≡ seats_by setup past hand (two_beside acting stance) → acting_as b.replica.role ≡ acting
+acts-by A of_two setup past hand seats stance a b link back active others = ap (λ (s : List Seat). acting_as (other_seat A s).node.replica.role) others ∙ other-acts setup past hand stance
+acts-by B of_two setup past hand seats stance a b link back active others = ap (λ (node : Node). acting_as node.replica.role) active ∙ active-acts setup past hand seats
+acts-by C of_two setup past hand seats stance a b link back active others = elim of_two [ ]
 
 -- **the active server of a world is that of each good state that it stands for**
 acts : (setup : Setup) (state : State Peers) (world : World) → IsGood setup state → Shows setup state world → acting_in world ≡ state.peers.acting
 acts setup state world good shows =
     let core = state.world.core in
     let two = two-good state good.steady.good in
-    acts-by state.peers.acting setup core.answered core.hand state.peers.seats two.stance world.a world.b world.link world.back
+    acts-by state.peers.acting two.acts setup core.answered core.hand state.peers.seats two.stance world.a world.b world.link world.back
     (ap (λ (servers : Group 2). servers.active) shows.own)
     (ap (λ (servers : Group 2). servers.seats) shows.own ∙ ap (seats_by setup core.answered core.hand) two.is)
 
@@ -76,15 +77,16 @@ parts-show setup state world good shows =
     subst (λ (acting : Server). (clusters.Shows (group_kit 2)) setup state (parts_of acting world)) (sym (acts setup state world good shows)) shows
 
 -- a world of parts, taken apart by who is active in them, is these parts, where the active server's own seat is empty
-parts-by : (acting : Server) (other : Node) (link back : List Message) (parts : Cluster (Group 2)) → parts_of acting (whole_of (record parts { servers = record parts.servers { acting = acting; seats = seats_beside acting other link back } })) ≡ record parts { servers = record parts.servers { acting = acting; seats = seats_beside acting other link back } }
-parts-by A other link back parts = refl
-parts-by B other link back parts = refl
+parts-by : (acting : Server) → IsOfTwo acting → (other : Node) (link back : List Message) (parts : Cluster (Group 2)) → parts_of acting (whole_of (record parts { servers = record parts.servers { acting = acting; seats = seats_beside acting other link back } })) ≡ record parts { servers = record parts.servers { acting = acting; seats = seats_beside acting other link back } }
+parts-by A of_two other link back parts = refl
+parts-by B of_two other link back parts = refl
+parts-by C of_two other link back parts = elim of_two [ ]
 
 parts-back : (parts : Cluster (Group 2)) → AreBeside parts.servers.acting parts.servers.seats → parts_of parts.servers.acting (whole_of parts) ≡ parts
 parts-back parts beside =
     let with_seats : List Seat → Cluster (Group 2) = λ seats. record parts { servers = record parts.servers { seats = seats } } in
     subst (λ (seats : List Seat). parts_of parts.servers.acting (whole_of (with_seats seats)) ≡ with_seats seats) (sym beside.is)
-    (parts-by parts.servers.acting beside.other beside.link beside.back parts)
+    (parts-by parts.servers.acting beside.acts beside.other beside.link beside.back parts)
 
 whole-shows : (setup : Setup) (state : State Peers) (parts : Cluster (Group 2)) (world : World) → world ≡ whole_of parts → IsGood setup state → (clusters.Shows (group_kit 2)) setup state parts → Shows setup state world
 whole-shows setup state parts world is good shows =
@@ -209,6 +211,7 @@ same-whole old = by (acting_in old)
     by : (acting : Server) → whole_of (parts_of acting old) ≡ old
     by A = refl
     by B = refl
+    by C = refl
 
 -- files that were to be shown were only read
 shown-read : (held left : DiskSeen) → (ShowFails (group_kit 2) group_script) held left → IsRead held left

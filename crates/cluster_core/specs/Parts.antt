@@ -1,5 +1,5 @@
 -- Words of bodies alone: a world that is taken apart by who is active, and put together again.
-use Rattle.std.specs.Prelude.{◌≡◌, ℕ, List, ◌∷◌}
+use Rattle.std.specs.Prelude.{◌≡◌, ℕ, if◌then◌else◌, List, ◌∷◌}
 use Rattle.disk_model.specs.Seen.{DiskSeen}
 use Rattle.disk_model.specs.declared.answers.DiskAnswer.{DiskAnswer}
 use Rattle.script_lines.specs.declared.line.Line.{Line}
@@ -13,7 +13,7 @@ use Rattle.group_servers.specs.declared.group.Seat.{Seat}
 use Rattle.group_servers.specs.declared.group.Group.{Group}
 use Rattle.group_servers.specs.GroupKit.{group_kit, group_script}
 use Rattle.cluster_core.specs.declared.world.World.{World}
-use Rattle.cluster_core.specs.Worlds.{named, own_seat, parts_of, unnamed}
+use Rattle.cluster_core.specs.Worlds.{is_first, named, own_seat, parts_of, unnamed}
 
 -- `b` is active where it has that role, and `a` otherwise
 abbrev pub acting_as : Role → Server
@@ -25,8 +25,7 @@ acting_in world = acting_as world.b.replica.role
 
 -- of two seats that of the server that is not the active one
 abbrev pub other_seat : Server → List Seat → Seat
-other_seat A (one ∷ other ∷ seats) = other
-other_seat B (one ∷ other ∷ seats) = one
+other_seat acting (one ∷ other ∷ seats) = if is_first acting then other else one
 other_seat acting _ = own_seat acting
 
 -- the world of these parts

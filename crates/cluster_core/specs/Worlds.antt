@@ -1,5 +1,5 @@
 -- Words of public clauses: how a world of the code is a state of the definitions: its parts are a cluster of a group of two.
-use Rattle.std.specs.Prelude.{ℕ, ℤ, pos, false, List, [], ◌∷◌}
+use Rattle.std.specs.Prelude.{ℕ, ℤ, pos, Bool, true, false, if◌then◌else◌, List, [], ◌∷◌}
 use Rattle.calls.specs.History.{empty_history}
 use Rattle.script_lines.specs.declared.line.Server.{Server}
 use Rattle.script_lines.specs.declared.line.Server.TheVariants.{A, B}
@@ -19,14 +19,17 @@ use Rattle.group_servers.specs.declared.group.Group.{Group}
 use Rattle.group_servers.specs.GroupKit.{group_kit}
 use Rattle.cluster_core.specs.declared.world.World.{World}
 
+-- whether a server is the first of two
+abbrev pub is_first : Server → Bool
+is_first A = true
+is_first _ = false
+
 -- of `a` and `b` the one with this name, and the other one
 abbrev pub named : {T : Type 0} → Server → T → T → T
-named A a b = a
-named B a b = b
+named acting a b = if is_first acting then a else b
 
 abbrev pub unnamed : {T : Type 0} → Server → T → T → T
-unnamed A a b = b
-unnamed B a b = a
+unnamed acting a b = if is_first acting then b else a
 
 -- the active server's own seat, in which one stands that is down
 abbrev pub own_seat : Server → Seat
@@ -34,14 +37,16 @@ own_seat acting = record { server = acting; node = alone down; link = []; back =
 
 -- the seats of two servers beside this active one: the other one's, with what is on the way to it and back, and its own
 abbrev pub seats_beside : Server → Node → List Message → List Message → List Seat
-seats_beside A other link back = own_seat A ∷ record { server = B; node = other; link = link; back = back } ∷ []
-seats_beside B other link back = record { server = A; node = other; link = link; back = back } ∷ own_seat B ∷ []
+seats_beside acting other link back =
+    if is_first acting
+    then own_seat A ∷ record { server = B; node = other; link = link; back = back } ∷ []
+    else record { server = A; node = other; link = link; back = back } ∷ own_seat B ∷ []
 
--- a world taken apart, with this server as the active one
+-- a world taken apart, with this server of the two as the active one
 abbrev pub parts_of : Server → World → Cluster (Group 2)
 parts_of acting world = record {
   servers = record {
-    acting = acting;
+    acting = named acting A B;
     active = named acting world.a world.b;
     seats = seats_beside acting (unnamed acting world.a world.b) world.link world.back;
     armed = world.armed;

@@ -1,12 +1,13 @@
 //! A world that is taken apart for an event, by who is active, and put together again, without memory.
 ghost use Rattle.std.specs.Prelude.{◌≡◌, OnOk, IfErr};
 ghost use Rattle.std.specs.Result.{is_ok};
+ghost use Rattle.script_lines.specs.declared.line.Server.TheVariants.{A, B};
 ghost use Rattle.cluster_lines.specs.Lines.{IsInRange};
 ghost use Rattle.cluster_rounds.specs.Counted.{Counted};
 ghost use Rattle.cluster_lines.specs.Playing.{LooksBy};
 ghost use Rattle.group_servers.specs.GroupKit.{group_kit};
 ghost use Rattle.cluster_core.specs.Game.{world_game};
-ghost use Rattle.cluster_core.specs.Worlds.{named, unnamed, own_seat, seats_beside, parts_of};
+ghost use Rattle.cluster_core.specs.Worlds.{is_first, named, unnamed, own_seat, seats_beside, parts_of};
 ghost use Rattle.played_runs.specs.Games.{HasState};
 ghost use Rattle.cluster_core.specs.Playing.{IsEventLine};
 ghost use Rattle.cluster_core.specs.Parts.{acting_in, other_seat, whole_of, PlaysWhole, BreaksWhole};
@@ -38,13 +39,28 @@ fn acting_in(world: &World) -> Server
     }
 }
 
+/// Whether a server is the first of two.
+fn is_first(acting: Server) -> bool
+    ensures { result ≡ is_first acting }
+{
+    matches!(acting, Server::A)
+}
+
 /// Of two the one that this name has among `a` and `b`, and the other one.
 fn in_order(acting: Server, a: Node, b: Node) -> (Node, Node)
     ensures { result ≡ (named acting a b, unnamed acting a b) }
 {
-    match acting {
-        Server::A => (a, b),
-        Server::B => (b, a),
+    if is_first(acting) { (a, b) } else { (b, a) }
+}
+
+/// Of the two servers the one of this name.
+fn of_two(acting: Server) -> Server
+    ensures { result ≡ named acting A B }
+{
+    if is_first(acting) {
+        Server::A
+    } else {
+        Server::B
     }
 }
 
@@ -70,26 +86,22 @@ fn seats_beside(
 ) -> [Seat; 2]
     ensures { result ≡ seats_beside acting other link back }
 {
-    match acting {
-        Server::A => {
-            let seat = Seat {
-                server: Server::B,
-                node: other,
-                link,
-                back,
-            };
-            [own_seat(alloc, Server::A), seat]
-        }
-        Server::B => {
-            let seat = Seat {
-                server: Server::A,
-                node: other,
-                link,
-                back,
-            };
-            [seat, own_seat(alloc, Server::B)]
-        }
+    if is_first(acting) {
+        let seat = Seat {
+            server: Server::B,
+            node: other,
+            link,
+            back,
+        };
+        return [own_seat(alloc, Server::A), seat];
     }
+    let seat = Seat {
+        server: Server::A,
+        node: other,
+        link,
+        back,
+    };
+    [seat, own_seat(alloc, Server::B)]
 }
 
 /// Of two seats that of the server that is not the active one.
@@ -97,15 +109,12 @@ fn other_seat(acting: Server, seats: [Seat; 2]) -> Seat
     ensures { result ≡ other_seat acting seats }
 {
     let [one, other] = seats;
-    match acting {
-        Server::A => {
-            mem::drop(one);
-            other
-        }
-        Server::B => {
-            mem::drop(other);
-            one
-        }
+    if is_first(acting) {
+        mem::drop(one);
+        other
+    } else {
+        mem::drop(other);
+        one
     }
 }
 
@@ -120,7 +129,7 @@ fn take_parts(alloc: Global, world: &mut World) -> Cluster<Group<2>>
     let link = mem::replace(&mut world.link, Seq::new(alloc));
     let back = mem::replace(&mut world.back, Seq::new(alloc));
     let servers = Group {
-        acting,
+        acting: of_two(acting),
         active,
         seats: seats_beside(alloc, acting, other, link, back),
         armed: world.armed,

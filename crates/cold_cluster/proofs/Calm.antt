@@ -3,7 +3,7 @@ use Rattle.std.proofs.Common.{◌≡◌, ℕ, inl, inr, Bool, true, false, ◌||
 use Rattle.disk_model.specs.Counts.{lowered}
 use Rattle.script_lines.specs.declared.line.Line.{Line}
 use Rattle.script_lines.specs.declared.line.Line.TheVariants as line
-use Rattle.script_lines.specs.declared.line.Server.TheVariants.{A, B}
+use Rattle.script_lines.specs.declared.line.Server.TheVariants.{A, B, C}
 use Rattle.cluster_facts.specs.Types.{Entry}
 use Rattle.cluster_facts.specs.History.{Hand, Empty, Waiting, Applied, Ready}
 use Rattle.cluster_facts.specs.Lists.{without}
@@ -132,8 +132,10 @@ module _ (plain : Plain) (is_plain : IsPlain plain) (device : Device) where
     up-stays line.Settle state outcome steady not_crash calm (inr stops) = settle-up state outcome steady calm stops
     up-stays (line.Crash A) state outcome steady not_crash calm happens = cc
     up-stays (line.Crash B) state outcome steady not_crash calm happens = cc
+    up-stays (line.Crash C) state outcome steady not_crash calm happens = cc
     up-stays (line.Arm A count) state outcome steady not_crash calm happens = subst IsUp (sym happens.1) calm.0
     up-stays (line.Arm B count) state outcome steady not_crash calm happens = subst IsUp (sym happens.1) calm.0
+    up-stays (line.Arm C count) state outcome steady not_crash calm happens = subst IsUp (sym happens.1) calm.0
     up-stays line.Disarm state outcome steady not_crash calm happens = subst IsUp (sym happens) calm.0
     up-stays (line.Restart server) state outcome steady not_crash calm happens = subst IsUp (sym happens) calm.0
     up-stays next state outcome steady not_crash calm happens = (others next state outcome steady calm happens).0

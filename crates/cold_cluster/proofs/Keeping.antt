@@ -2,7 +2,7 @@
 use Rattle.std.proofs.Common.{◌≡◌, ℕ, inl, inr, Bool, true, false, Option, Some, None, List, [], ◌∷◌, refl, ap, sym, subst}
 use Rattle.script_lines.specs.declared.line.Line.{Line}
 use Rattle.script_lines.specs.declared.line.Line.TheVariants as line
-use Rattle.script_lines.specs.declared.line.Server.TheVariants.{A, B}
+use Rattle.script_lines.specs.declared.line.Server.TheVariants.{A, B, C}
 use Rattle.cluster_facts.specs.Types.{Message, Answer, Delivery}
 use Rattle.cluster_facts.specs.Agents.{resent}
 use Rattle.cluster_facts.specs.Messages.{Posting, Spelled, Raw}
@@ -77,8 +77,10 @@ module _ (plain : Plain) (is_plain : IsPlain plain) where
     up-keeps line.Settle state outcome steady (inr stops) = settle-stops (HaltsStep device) (λ now last ended. ended.is) state outcome steady stops
     up-keeps (line.Crash A) state outcome steady happens = subst (Keeps plain state) (sym happens) (falls state steady)
     up-keeps (line.Crash B) state outcome steady happens = subst (Keeps plain state) (sym happens) (refuses device (line.Crash B) state steady)
+    up-keeps (line.Crash C) state outcome steady happens = subst (Keeps plain state) (sym happens) (refuses device (line.Crash C) state steady)
     up-keeps (line.Arm A count) state outcome steady happens = subst (Keeps plain state) (sym happens.1) (arms (Some count) state.peers.beside state steady)
     up-keeps (line.Arm B count) state outcome steady happens = subst (Keeps plain state) (sym happens.1) (arms state.peers.armed (Some count) state steady)
+    up-keeps (line.Arm C count) state outcome steady happens = subst (Keeps plain state) (sym happens.1) (refuses device (line.Arm C count) state steady)
     up-keeps line.Disarm state outcome steady happens = subst (Keeps plain state) (sym happens) (arms None None state steady)
     up-keeps (line.Restart server) state outcome steady happens = subst (Keeps plain state) (sym happens) (refuses device (line.Restart server) state steady)
     up-keeps next state outcome steady happens = others next state outcome steady happens
@@ -115,6 +117,7 @@ module _ (plain : Plain) (is_plain : IsPlain plain) where
     down-keeps line.Disarm state outcome steady happens = subst (Keeps plain state) (sym happens) (arms None None state steady)
     down-keeps (line.Restart A) state outcome steady happens = restart-keeps plain is_plain (Says plain) (says-borne plain) state outcome steady happens
     down-keeps (line.Restart B) state outcome steady happens = subst (Keeps plain state) (sym happens) (refuses device (line.Restart B) state steady)
+    down-keeps (line.Restart C) state outcome steady happens = subst (Keeps plain state) (sym happens) (refuses device (line.Restart C) state steady)
     down-keeps next state outcome steady happens = others next state outcome steady happens
 
     by-keeps : (up : Bool) (next : Line) (state : State Alone) (outcome : Outcome (State Alone)) → IsSteady plain IsCold state → HappensBy up plain shelf device next state outcome → Keeps plain state outcome

@@ -3,7 +3,7 @@ use Rattle.std.specs.Prelude.{◌≡◌, ℕ, ◌≤◌, Bool, true, false, ◌|
 use Rattle.disk_model.specs.Counts.{reaches}
 use Rattle.script_lines.specs.declared.line.Line.{Line}
 use Rattle.script_lines.specs.declared.line.Line.TheVariants as line
-use Rattle.script_lines.specs.declared.line.Server.TheVariants.{A, B}
+use Rattle.script_lines.specs.declared.line.Server.TheVariants.{A, B, C}
 use Rattle.cluster_facts.specs.Types.{Entry, Message, Answer, Delivery}
 use Rattle.cluster_facts.specs.Lists.{without}
 use Rattle.cluster_facts.specs.Agents.{resent}
@@ -92,11 +92,13 @@ HappensUp plain shelf device line.Work state outcome = outcome ≡ perform_next 
 HappensUp plain shelf device line.Settle state outcome =
     SettlesUp plain device state outcome ⊎ SettleStops plain device (HaltsStep device) state outcome
 HappensUp plain shelf device (line.Crash A) state outcome = outcome ≡ fallen state
-HappensUp plain shelf device (line.Crash B) state outcome = outcome ≡ refuse (alone plain device) (line.Crash B) state
+HappensUp plain shelf device (line.Crash server) state outcome = outcome ≡ refuse (alone plain device) (line.Crash server) state
 HappensUp plain shelf device (line.Arm A count) state outcome =
     (1 ≤ count) × (outcome ≡ armed_alone (Some count) state.peers.beside state)
 HappensUp plain shelf device (line.Arm B count) state outcome =
     (1 ≤ count) × (outcome ≡ armed_alone state.peers.armed (Some count) state)
+HappensUp plain shelf device (line.Arm C count) state outcome =
+    (1 ≤ count) × (outcome ≡ refuse (alone plain device) (line.Arm C count) state)
 HappensUp plain shelf device line.Disarm state outcome = outcome ≡ armed_alone None None state
 HappensUp plain shelf device (line.Restart server) state outcome =
     outcome ≡ refuse (alone plain device) (line.Restart server) state
@@ -140,8 +142,8 @@ HappensDown plain shelf device (line.Arm server count) state outcome =
     outcome ≡ refuse (alone plain device) (line.Arm server count) state
 HappensDown plain shelf device line.Disarm state outcome = outcome ≡ armed_alone None None state
 HappensDown plain shelf device (line.Restart A) state outcome = Restarts state outcome
-HappensDown plain shelf device (line.Restart B) state outcome =
-    outcome ≡ refuse (alone plain device) (line.Restart B) state
+HappensDown plain shelf device (line.Restart server) state outcome =
+    outcome ≡ refuse (alone plain device) (line.Restart server) state
 HappensDown plain shelf device next state outcome = Happens plain shelf (alone plain device) next state outcome
 
 -- What a line leads to and prints.

@@ -153,6 +153,7 @@ fn put_piece(out: &mut Vec<u8>, piece: &Piece) -> Result<(), AllocError>
         Piece::Hand(None) => put(out, b"-"),
         Piece::Node(Server::A) => put(out, b"a"),
         Piece::Node(Server::B) => put(out, b"b"),
+        Piece::Node(Server::C) => put(out, b"c"),
     }
 }
 

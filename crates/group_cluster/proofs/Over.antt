@@ -2,7 +2,7 @@
 use Rattle.std.proofs.Common.{◌≡◌, ℕ, zero, suc, ◌+◌, ◌-◌, ◌≤◌, ◌<◌, Bool, true, false, ◌&&◌, ◌||◌, nat_lt, if◌then◌else◌, List, [], ◌∷◌, refl, ap, sym, ◌∙◌, arith}
 use Rattle.std.proofs.lemmas.Bool.{ltb-true}
 use Rattle.script_lines.specs.declared.line.Server.{Server}
-use Rattle.script_lines.specs.declared.line.Server.TheVariants.{A, B}
+use Rattle.script_lines.specs.declared.line.Server.TheVariants.{A, B, C}
 use Rattle.cluster_facts.specs.Types.{Entry}
 use Rattle.cluster_facts.specs.History.{committed_by}
 use Rattle.cluster_events.specs.Devices.{Device}
@@ -14,6 +14,7 @@ use Rattle.group_cluster.proofs.Crashing.{some-caught, caught-standby}
 same-self : (server : Server) → same_server server server ≡ true
 same-self A = refl
 same-self B = refl
+same-self C = refl
 
 or-right : (one other : Bool) → other ≡ true → (one || other) ≡ true
 or-right true other is = refl

@@ -2,7 +2,7 @@
 use Rattle.std.proofs.Common.{◌≡◌, ℕ, zero, suc, ◌+◌, ◌*◌, ◌≤◌, Bool, true, false, ◌||◌, if◌then◌else◌, Option, Some, None, List, [], ◌∷◌, length, refl, ap, sym, ◌∙◌, subst, arith}
 use Rattle.std.specs.List.{AllByRecursion}
 use Rattle.script_lines.specs.declared.line.Server.{Server}
-use Rattle.script_lines.specs.declared.line.Server.TheVariants.{A, B}
+use Rattle.script_lines.specs.declared.line.Server.TheVariants.{A, B, C}
 use Rattle.cluster_facts.specs.Types.{Entry}
 use Rattle.cluster_facts.specs.History.{Hand, Empty, Waiting, Applied, Ready}
 use Rattle.cluster_events.specs.Lines.{Told, Stood}
@@ -78,14 +78,24 @@ any-on test change same (seat ∷ seats) =
 pub same-turned : (one other : Server) → same_server one other ≡ same_server other one
 same-turned A A = refl
 same-turned A B = refl
+same-turned A C = refl
 same-turned B A = refl
 same-turned B B = refl
+same-turned B C = refl
+same-turned C A = refl
+same-turned C B = refl
+same-turned C C = refl
 
 pub same-is : (one other : Server) → same_server one other ≡ true → one ≡ other
 same-is A A same = refl
 same-is B B same = refl
+same-is C C same = refl
 same-is A B same = cc
+same-is A C same = cc
 same-is B A same = cc
+same-is B C same = cc
+same-is C A same = cc
+same-is C B same = cc
 
 pub apart-on : (acting : Server) (change : Stance → Stance) → change Out ≡ Out → (seats : List Seat) → IsApart acting seats → IsApart acting (on_seats change seats)
 apart-on acting change out [] apart = tt

@@ -2,7 +2,7 @@
 use Rattle.std.specs.Prelude.{◌≡◌, ℕ, suc, ◌+◌, ◌≤◌, Bool, true, false, ◌||◌, not, if◌then◌else◌, Option, Some, None, List, [], ◌∷◌, ◌++◌, length}
 use Rattle.std.specs.List.{AllByRecursion, list_any}
 use Rattle.script_lines.specs.declared.line.Server.{Server}
-use Rattle.script_lines.specs.declared.line.Server.TheVariants.{A, B}
+use Rattle.script_lines.specs.declared.line.Server.TheVariants.{A, B, C}
 use Rattle.cluster_facts.specs.Types.{Entry}
 use Rattle.cluster_facts.specs.History.{Hand, Empty, Waiting, Applied, Ready}
 use Rattle.cluster_events.specs.declared.lines.ServerRole.{ServerRole}
@@ -143,6 +143,7 @@ IsArmed (Some left) seats = (1 ≤ left) × (any_seat is_standby seats ≡ true)
 abbrev pub same_server : Server → Server → Bool
 same_server A A = true
 same_server B B = true
+same_server C C = true
 same_server _ _ = false
 
 -- the active server is nothing else beside

@@ -4,7 +4,7 @@ use Rattle.std.specs.List.{AllByRecursion}
 use Rattle.std.proofs.lemmas.Bool.{lt-ltb, le-leb}
 use Rattle.stream_layout.specs.Deeds.{calls_of_all}
 use Rattle.script_lines.specs.declared.line.Server.{Server}
-use Rattle.script_lines.specs.declared.line.Server.TheVariants.{A, B}
+use Rattle.script_lines.specs.declared.line.Server.TheVariants.{A, B, C}
 use Rattle.plain_service.specs.Setups.{Setup}
 use Rattle.plain_service.specs.Storing.{deeds_of}
 use Rattle.cluster_facts.specs.Types.{Entry}
@@ -48,6 +48,7 @@ same-self one other is = subst (λ s. same_server one s ≡ true) is (self one)
     self : (s : Server) → same_server s s ≡ true
     self A = refl
     self B = refl
+    self C = refl
 
 -- **the seats are those of the definitions**
 pub rejoined-own : (setup : Setup) (past history : List Entry) (hand : Hand) (test : Stance → Bool) (acting : Server) (place : ℕ) (owns : List defined.Seat) → AreDistinct (names_of owns) → IsAtPlace test acting place owns → all_rejoin (standby_by setup history false) (left_at place (won_at place (bare setup past hand owns))) ≡ seats_by setup history Empty (out_at acting (on_seats rejoined owns))

@@ -8,7 +8,7 @@ use Rattle.disk_model.specs.Seen.{DiskSeen}
 use Rattle.disk_model.specs.declared.tally.Tally.{Tally}
 use Rattle.wire.specs.declared.message.Message.{Message}
 use Rattle.script_lines.specs.declared.line.Server.{Server}
-use Rattle.script_lines.specs.declared.line.Server.TheVariants.{A, B}
+use Rattle.script_lines.specs.declared.line.Server.TheVariants.{A, B, C}
 use Rattle.plain_service.specs.Setups.{Setup}
 use Rattle.plain_service.specs.Legal.{IsHistory, CanFollow}
 use Rattle.plain_service.specs.Values.{saved_of}
@@ -241,6 +241,9 @@ few-by one two (inr out) = subst (λ (s : Stance). (if is_standby one then 1 els
 out-of : (acting : Server) (one two : defined.Seat) → one.server ≡ A → two.server ≡ B → is_named acting (one.server ∷ two.server ∷ []) ≡ true → IsApart acting (one ∷ two ∷ []) → (one.stance ≡ Out) ⊎ (two.stance ≡ Out)
 out-of A one two first second acts apart = inl (apart.0 (ap (λ (s : Server). same_server s A) first))
 out-of B one two first second acts apart = inr (apart.1.0 (ap (λ (s : Server). same_server s B) second))
+out-of C one two first second acts apart =
+    let none : true ≡ false = sym acts ∙ (λ i. is_named C (first i ∷ second i ∷ [])) in
+    cc
 
 pub few-standbys : (acting : Server) (owns : List defined.Seat) → AreNames (names_of owns) → is_named acting (names_of owns) ≡ true → IsApart acting owns → count_seats is_standby owns ≤ 1
 few-standbys acting [] names acts apart = cc

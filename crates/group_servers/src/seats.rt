@@ -20,10 +20,17 @@ pub(crate) fn same_server(one: Server, other: Server) -> bool
         Server::A => match other {
             Server::A => true,
             Server::B => false,
+            Server::C => false,
         },
         Server::B => match other {
             Server::A => false,
             Server::B => true,
+            Server::C => false,
+        },
+        Server::C => match other {
+            Server::A => false,
+            Server::B => false,
+            Server::C => true,
         },
     }
 }

@@ -11,7 +11,7 @@ use Rattle.calls.specs.declared.call.Ask.TheVariants.{Start, Plain}
 use Rattle.calls.specs.declared.call.Call.TheVariants.{LogOpen}
 use Rattle.script_lines.specs.declared.line.Line.TheVariants.{Cluster, Log, Ntf, Settle, Crash, Restart, Servers}
 use Rattle.script_lines.specs.declared.line.Server.{Server}
-use Rattle.script_lines.specs.declared.line.Server.TheVariants.{A, B}
+use Rattle.script_lines.specs.declared.line.Server.TheVariants.{A, B, C}
 use Rattle.script_language.specs.Asks.{IsInit, IsOpen}
 use Rattle.script_language.specs.Control.{IsCrash, IsRestart, IsSetting}
 use Rattle.script_language.specs.Lines.{IsLogAsk, IsLogLine, IsNtfAsk, IsNtfLine, Spells}
@@ -187,22 +187,29 @@ pub settle-spelled : Spells Settle (codes "settle")
 unfolding Spells
 settle-spelled = inr (inr (inr (inr (inr (inr (inr (inr (inr (inr (inr (inl ([], refl, (refl, refl)))))))))))))
 
-server-spelled : (server : Server) → IsServer server (server_text server)
+-- `a` and `b`
+abbrev pub IsSpelled : Server → Type 0
+IsSpelled A = Unit {0}
+IsSpelled B = Unit {0}
+IsSpelled C = ⊥
+
+server-spelled : (server : Server) → IsSpelled server → IsServer server (server_text server)
 unfolding IsServer
-server-spelled A = inl ([], refl, (refl, refl))
-server-spelled B = inr (inl ([], refl, (refl, refl)))
+server-spelled A spelled = inl ([], refl, (refl, refl))
+server-spelled B spelled = inr (inl ([], refl, (refl, refl)))
+server-spelled C spelled = elim spelled [ ]
 
-pub crash-spelled : (server : Server) → Spells (Crash server) (codes "crash " ++ server_text server)
+pub crash-spelled : (server : Server) → IsSpelled server → Spells (Crash server) (codes "crash " ++ server_text server)
 unfolding Spells IsCrash
-crash-spelled server =
+crash-spelled server spelled =
     let letter = server_text server in
-    inr (inr (inr (inr (inr (inr (inr (inr (inr (inr (inr (inr (inl (letter, refl, (server, letter, [], sym (append-nil letter), server-spelled server, (refl, refl)))))))))))))))
+    inr (inr (inr (inr (inr (inr (inr (inr (inr (inr (inr (inr (inl (letter, refl, (server, letter, [], sym (append-nil letter), server-spelled server spelled, (refl, refl)))))))))))))))
 
-pub restart-spelled : (server : Server) → Spells (Restart server) (codes "restart " ++ server_text server)
+pub restart-spelled : (server : Server) → IsSpelled server → Spells (Restart server) (codes "restart " ++ server_text server)
 unfolding Spells IsRestart
-restart-spelled server =
+restart-spelled server spelled =
     let letter = server_text server in
-    inr (inr (inr (inr (inr (inr (inr (inr (inr (inr (inr (inr (inr (inr (inr (inl (letter, refl, (server, letter, [], sym (append-nil letter), server-spelled server, (refl, refl))))))))))))))))))
+    inr (inr (inr (inr (inr (inr (inr (inr (inr (inr (inr (inr (inr (inr (inr (inl (letter, refl, (server, letter, [], sym (append-nil letter), server-spelled server spelled, (refl, refl))))))))))))))))))
 
 pub servers-spelled : Spells Servers (codes "servers")
 unfolding Spells

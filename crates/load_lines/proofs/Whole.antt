@@ -20,7 +20,7 @@ use Rattle.script_language.proofs.Judging.{spelling_rule}
 use Rattle.load_script.specs.Numbers.{number_in, state_at}
 use Rattle.load_script.specs.Texts.{alarm_line, closing_text, failure_behind, load_text, opening_text, record_line, sent_line, settle_behind, turn_text, turns_text}
 use Rattle.load_lines.specs.Lines.{alarm_sent, closing_lines, failing, failure_of, load_lines, no_options, opening_lines, record_written, sent, settling, turn_lines, turns_lines}
-use Rattle.load_lines.proofs.Fixed.{cluster-spelled, crash-spelled, log_init-spelled, log_open-spelled, ntf_init-spelled, restart-spelled, servers-spelled, settle-spelled}
+use Rattle.load_lines.proofs.Fixed.{IsSpelled, cluster-spelled, crash-spelled, log_init-spelled, log_open-spelled, ntf_init-spelled, restart-spelled, servers-spelled, settle-spelled}
 use Rattle.load_lines.proofs.Turns.{alarm-ended, alarm-spelled, alarm_raw, record-ended, record-spelled, record_raw}
 
 -- What text gives which lines.
@@ -88,16 +88,16 @@ gives-settling turn =
     ] in
     at (turn % 16 == 0)
 
-gives-failure : (server : Server) → Gives (failure_of server) ((codes "crash " ++ server_text server) ++ 10 ∷ [] ++ ((codes "restart " ++ server_text server) ++ 10 ∷ [] ++ codes "settle\n"))
-gives-failure server =
-    gives-both (Crash server ∷ []) (Restart server ∷ Settle ∷ []) ((codes "crash " ++ server_text server) ++ 10 ∷ []) ((codes "restart " ++ server_text server) ++ 10 ∷ [] ++ codes "settle\n") (gives-line (Crash server) (codes "crash " ++ server_text server) (crash-spelled server))
-    (gives-both (Restart server ∷ []) (Settle ∷ []) ((codes "restart " ++ server_text server) ++ 10 ∷ []) (codes "settle\n") (gives-line (Restart server) (codes "restart " ++ server_text server) (restart-spelled server)) gives-settle)
+gives-failure : (server : Server) → IsSpelled server → Gives (failure_of server) ((codes "crash " ++ server_text server) ++ 10 ∷ [] ++ ((codes "restart " ++ server_text server) ++ 10 ∷ [] ++ codes "settle\n"))
+gives-failure server named =
+    gives-both (Crash server ∷ []) (Restart server ∷ Settle ∷ []) ((codes "crash " ++ server_text server) ++ 10 ∷ []) ((codes "restart " ++ server_text server) ++ 10 ∷ [] ++ codes "settle\n") (gives-line (Crash server) (codes "crash " ++ server_text server) (crash-spelled server named))
+    (gives-both (Restart server ∷ []) (Settle ∷ []) ((codes "restart " ++ server_text server) ++ 10 ∷ []) (codes "settle\n") (gives-line (Restart server) (codes "restart " ++ server_text server) (restart-spelled server named)) gives-settle)
 
 gives-failing : (turn : ℕ) → Gives (failing turn) (failure_behind turn)
 gives-failing turn =
     let odd : (test : Bool) → Gives (cond test (failure_of A) (failure_of B)) (cond test (codes "crash a\nrestart a\nsettle\n") (codes "crash b\nrestart b\nsettle\n")) = elim [
-      | true ↦ gives-failure A
-      | false ↦ gives-failure B
+      | true ↦ gives-failure A tt
+      | false ↦ gives-failure B tt
     ] in
     let test = turn / 1000 % 2 == 1 in
     let at : (thousandth : Bool) → Gives (cond thousandth (cond test (failure_of A) (failure_of B)) []) (cond thousandth (cond test (codes "crash a\nrestart a\nsettle\n") (codes "crash b\nrestart b\nsettle\n")) []) = elim [

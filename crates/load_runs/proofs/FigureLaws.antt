@@ -15,7 +15,7 @@ use Rattle.disk_model.specs.Disk.{Files, length_of}
 use Rattle.disk_model.specs.declared.tally.Tally.{Tally}
 use Rattle.plain_service.specs.Setups.{Setup}
 use Rattle.script_lines.specs.declared.line.Server.{Server}
-use Rattle.script_lines.specs.declared.line.Server.TheVariants.{A, B}
+use Rattle.script_lines.specs.declared.line.Server.TheVariants.{A, B, C}
 use Rattle.cluster_facts.specs.Types.{Message}
 use Rattle.cluster_facts.specs.Agents.{Agent, resent}
 use Rattle.cluster_facts.specs.Messages.{Posting, Spelled, Raw, messages_in}
@@ -182,10 +182,12 @@ counts-all (Some told) counted all = (all.files, all.bytes)
 shown-a : (acting : Server) (world : World) → role_shown world.armed world.a.replica.role ≡ role_in A (parts_of acting world).servers
 shown-a A world = refl
 shown-a B world = refl
+shown-a C world = refl
 
 shown-b : (acting : Server) (world : World) → role_shown world.armed world.b.replica.role ≡ role_in B (parts_of acting world).servers
 shown-b A world = refl
 shown-b B world = refl
+shown-b C world = refl
 
 -- the line by its parts, each of which is that of the state
 abbrev pub line_of : (entries replies net files bytes : ℕ) → (a b : List ℕ) → List ℕ

@@ -11,7 +11,7 @@ use Rattle.script_language.specs.Streams.{well_attrs}
 use Rattle.plain_service.specs.Setups.{Setup}
 use Rattle.cluster_core.specs.Beginning.{Begins}
 use Rattle.load_lines.specs.Lines.{alarm_sent, closing_lines, failing, failure_of, first_lines, no_options, opening_line, record_written, sent, settling, turn_lines}
-use Rattle.load_lines.proofs.Fixed.{crash-spelled, log_init-spelled, log_open-spelled, ntf_init-spelled, restart-spelled, servers-spelled, settle-spelled}
+use Rattle.load_lines.proofs.Fixed.{IsSpelled, crash-spelled, log_init-spelled, log_open-spelled, ntf_init-spelled, restart-spelled, servers-spelled, settle-spelled}
 use Rattle.load_lines.proofs.Turns.{alarm-spelled, alarm_raw, record-spelled, record_raw}
 use Rattle.cluster_core.specs.Runs.{CanPass}
 
@@ -29,9 +29,9 @@ can-first =
 pub can-closing : CanPass closing_lines
 can-closing = ((codes "settle", settle-spelled), λ now. tt, ((codes "servers", servers-spelled), λ now. tt, tt))
 
-can-fail : (server : Server) → CanPass (failure_of server)
-can-fail server =
-    ((codes "crash " ++ server_text server, crash-spelled server), λ now. tt, ((codes "restart " ++ server_text server, restart-spelled server), λ now. tt, can-settle))
+can-fail : (server : Server) → IsSpelled server → CanPass (failure_of server)
+can-fail server spelled =
+    ((codes "crash " ++ server_text server, crash-spelled server spelled), λ now. tt, ((codes "restart " ++ server_text server, restart-spelled server spelled), λ now. tt, can-settle))
 
 pub can-turn : (turn number : ℕ) → turn < 2 ^ 64 → number < 65536 → CanPass (turn_lines turn number)
 can-turn turn number few small =
@@ -44,8 +44,8 @@ can-turn turn number few small =
       | false ↦ tt
     ] in
     let odd : (test : Bool) → CanPass (cond test (failure_of A) (failure_of B)) = elim [
-      | true ↦ can-fail A
-      | false ↦ can-fail B
+      | true ↦ can-fail A tt
+      | false ↦ can-fail B tt
     ] in
     let test = turn / 1000 % 2 == 1 in
     let third : (thousandth : Bool) → CanPass (cond thousandth (cond test (failure_of A) (failure_of B)) []) = elim [

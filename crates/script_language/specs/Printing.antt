@@ -31,7 +31,7 @@ use Rattle.calls.specs.declared.call.Ask.TheVariants.{Start, Plain}
 use Rattle.calls.specs.declared.call.Call.{Call}
 use Rattle.calls.specs.declared.call.Call.TheVariants as call
 use Rattle.script_lines.specs.declared.line.Server.{Server}
-use Rattle.script_lines.specs.declared.line.Server.TheVariants.{A, B}
+use Rattle.script_lines.specs.declared.line.Server.TheVariants.{A, B, C}
 use Rattle.script_lines.specs.declared.line.WellOptions.{WellOptions}
 use Rattle.script_lines.specs.declared.note.NoteKind.{NoteKind}
 use Rattle.script_lines.specs.declared.note.NoteKind.TheVariants as kind
@@ -46,6 +46,7 @@ use Rattle.script_language.specs.Notes.{heading_of}
 abbrev pub server_text : Server → List ℕ
 server_text A = codes "a"
 server_text B = codes "b"
+server_text C = codes "c"
 
 abbrev pub version_text : Version → List ℕ
 version_text version = joined ((version.release ∷ []) ∷ codes "." ∷ decimal version.major ∷ codes "." ∷ decimal version.minor ∷ [])

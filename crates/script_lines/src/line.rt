@@ -4,11 +4,12 @@ use calls::Ask;
 use std::alloc::{AllocError, Global};
 use stream_config::FullAction;
 
-/// One of the two servers of the cluster.
+/// A server of the cluster. No line of a script on two servers names `C`.
 #[derive(Clone, Copy, Debug, PartialEq, Eq)]
 pub enum Server {
     A,
     B,
+    C,
 }
 
 /// What a cluster line says of a well-known stream. What is absent has its default.

@@ -22,6 +22,7 @@ fn put_server(out: &mut Vec<u8>, server: Server) -> Result<(), AllocError>
     match server {
         Server::A => put(out, b"a"),
         Server::B => put(out, b"b"),
+        Server::C => put(out, b"c"),
     }
 }
 

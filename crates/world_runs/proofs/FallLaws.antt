@@ -5,7 +5,7 @@ use Rattle.disk_model.specs.Disk.{Files}
 use Rattle.script_lines.specs.declared.line.Line.{Line}
 use Rattle.script_lines.specs.declared.line.Line.TheVariants as line
 use Rattle.script_lines.specs.declared.line.Server.{Server}
-use Rattle.script_lines.specs.declared.line.Server.TheVariants.{A, B}
+use Rattle.script_lines.specs.declared.line.Server.TheVariants.{A, B, C}
 use Rattle.service_laws.specs.PlainOf.{plain_of}
 use Rattle.service_laws.proofs.ServiceLaws.{is_plain}
 use Rattle.cluster_facts.specs.Types.{Entry}
@@ -21,12 +21,12 @@ use Rattle.group_cluster.specs.Seats.{Mark, Clear, Sent, Took, Stance, Out, Owed
 use Rattle.group_cluster.specs.Falling.{capped, catches, caught_hand, caught_seats, count_fallen, crash, failing, felled, is_fresh, named, next_of, out_at, rejoined, taken_over, takes}
 use Rattle.group_cluster.specs.Running.{GroupHappens}
 use Rattle.group_cluster.proofs.Staying.{servers-stay-up}
-use Rattle.cluster_core.proofs.TwoSeats.{two-good, two_beside}
+use Rattle.cluster_core.proofs.TwoSeats.{IsOfTwo, two-good, two_beside}
 use Rattle.cluster_core.specs.Game.{world_game}
 use Rattle.cluster_core.specs.GameLaws.{device_in, world_plays}
 use Rattle.played_runs.proofs.PlayLaws.{played-says, each-played}
 use Rattle.world_runs.specs.Counting.{CallsCounted}
-use Rattle.world_runs.specs.Falling.{CrashesOne, FallsByCause, FaultsFell, other_server}
+use Rattle.world_runs.specs.Falling.{CrashesOne, FallsByCause, FaultsFell, HasFallen}
 use Rattle.cluster_core.specs.Runs.{OfAllLines, OfAllLinesOf}
 
 -- Of two servers the other one takes over, whatever the disk fails in.
@@ -52,59 +52,61 @@ over_with count acting seats =
     let next = next_of acting count (named (takes false) seats) in
     record { acting = next; seats = out_at next (on_seats rejoined (felled (takes false) count seats)); armed = None }
 
-abbrev HasFallen : Server → Peers → Type 0
-HasFallen server new = (role_of server new ≡ role.Down) × (role_of (other_server server) new ≡ role.Active)
-
-over-two : (device : Device) (history : List Entry) (acting : Server) (on_way : Option ℕ) (mark : Mark) (keeps : Bool) → HasFallen acting (over_at device history acting (two_beside acting (Standby on_way mark keeps)))
-over-two device history A on_way mark true =
+over-two : (device : Device) (history : List Entry) (acting : Server) → IsOfTwo acting → (on_way : Option ℕ) (mark : Mark) (keeps : Bool) → HasFallen acting (over_at device history acting (two_beside acting (Standby on_way mark keeps)))
+over-two device history A of_two on_way mark true =
     subst (λ (count : ℕ). HasFallen A (over_with count A (two_beside A (Standby on_way mark true)))) (sym (capped-one (failing device history))) (refl, refl)
-over-two device history A on_way mark false = (refl, refl)
-over-two device history B on_way mark true =
+over-two device history A of_two on_way mark false = (refl, refl)
+over-two device history B of_two on_way mark true =
     subst (λ (count : ℕ). HasFallen B (over_with count B (two_beside B (Standby on_way mark true)))) (sym (capped-one (failing device history))) (refl, refl)
-over-two device history B on_way mark false = (refl, refl)
+over-two device history B of_two on_way mark false = (refl, refl)
+over-two device history C of_two on_way mark keeps = elim of_two [ ]
 
-over-caught : (device : Device) (history : List Entry) (acting : Server) (catching : Bool) (on_way : Option ℕ) (mark : Mark) (keeps : Bool) → HasFallen acting (over_at device history acting (caught_seats catching (two_beside acting (Standby on_way mark keeps))))
-over-caught device history A true on_way Clear keeps = over-two device history A on_way Clear keeps
-over-caught device history A true on_way Sent keeps = over-two device history A on_way Took true
-over-caught device history A true on_way Took keeps = over-two device history A on_way Took keeps
-over-caught device history A false on_way mark keeps = over-two device history A on_way mark keeps
-over-caught device history B true on_way Clear keeps = over-two device history B on_way Clear keeps
-over-caught device history B true on_way Sent keeps = over-two device history B on_way Took true
-over-caught device history B true on_way Took keeps = over-two device history B on_way Took keeps
-over-caught device history B false on_way mark keeps = over-two device history B on_way mark keeps
+over-caught : (device : Device) (history : List Entry) (acting : Server) → IsOfTwo acting → (catching : Bool) (on_way : Option ℕ) (mark : Mark) (keeps : Bool) → HasFallen acting (over_at device history acting (caught_seats catching (two_beside acting (Standby on_way mark keeps))))
+over-caught device history A of_two true on_way Clear keeps = over-two device history A of_two on_way Clear keeps
+over-caught device history A of_two true on_way Sent keeps = over-two device history A of_two on_way Took true
+over-caught device history A of_two true on_way Took keeps = over-two device history A of_two on_way Took keeps
+over-caught device history A of_two false on_way mark keeps = over-two device history A of_two on_way mark keeps
+over-caught device history B of_two true on_way Clear keeps = over-two device history B of_two on_way Clear keeps
+over-caught device history B of_two true on_way Sent keeps = over-two device history B of_two on_way Took true
+over-caught device history B of_two true on_way Took keeps = over-two device history B of_two on_way Took keeps
+over-caught device history B of_two false on_way mark keeps = over-two device history B of_two on_way mark keeps
+over-caught device history C of_two catching on_way mark keeps = elim of_two [ ]
 
 abbrev two_of : Server → Stance → Option ℕ → Peers
 two_of acting stance armed = record { acting = acting; seats = two_beside acting stance; armed = armed }
 
-over-one : (device : Device) (world : World) (acting : Server) (on_way : Option ℕ) (mark : Mark) (keeps : Bool) (armed : Option ℕ) → HasFallen acting (taken_over device (record { world = world; peers = two_of acting (Standby on_way mark keeps) armed })).state.peers
-over-one device world acting on_way mark keeps armed =
+over-one : (device : Device) (world : World) (acting : Server) → IsOfTwo acting → (on_way : Option ℕ) (mark : Mark) (keeps : Bool) (armed : Option ℕ) → HasFallen acting (taken_over device (record { world = world; peers = two_of acting (Standby on_way mark keeps) armed })).state.peers
+over-one device world acting of_two on_way mark keeps armed =
     let catching = catches (two_beside acting (Standby on_way mark keeps)) world.core.hand in
-    over-caught device (committed_by world.core.answered (caught_hand catching world.core.hand)) acting catching on_way mark keeps
+    over-caught device (committed_by world.core.answered (caught_hand catching world.core.hand)) acting of_two catching on_way mark keeps
 
 -- by which server is active, how the other one stands, and the count that is armed
-crash-one : (device : Device) (world : World) (server acting : Server) (stance : Stance) (armed : Option ℕ) → CrashesOne (line.Crash server) (two_of acting stance armed) (crash device server (record { world = world; peers = two_of acting stance armed })).state.peers
-crash-one device world A A Out armed = inl refl
-crash-one device world A A Owed armed = inl refl
-crash-one device world A A (Linking sent) armed = inl refl
-crash-one device world A A (Standby on_way mark keeps) armed = inr (over-one device world A on_way mark keeps armed)
-crash-one device world B B Out armed = inl refl
-crash-one device world B B Owed armed = inl refl
-crash-one device world B B (Linking sent) armed = inl refl
-crash-one device world B B (Standby on_way mark keeps) armed = inr (over-one device world B on_way mark keeps armed)
-crash-one device world A B Out armed = inl refl
-crash-one device world A B Owed (Some left) = inl refl
-crash-one device world A B (Linking sent) (Some left) = inl refl
-crash-one device world A B (Standby on_way mark keeps) (Some left) = inl refl
-crash-one device world A B Owed None = inr (refl, refl)
-crash-one device world A B (Linking sent) None = inr (refl, refl)
-crash-one device world A B (Standby on_way mark keeps) None = inr (refl, refl)
-crash-one device world B A Out armed = inl refl
-crash-one device world B A Owed (Some left) = inl refl
-crash-one device world B A (Linking sent) (Some left) = inl refl
-crash-one device world B A (Standby on_way mark keeps) (Some left) = inl refl
-crash-one device world B A Owed None = inr (refl, refl)
-crash-one device world B A (Linking sent) None = inr (refl, refl)
-crash-one device world B A (Standby on_way mark keeps) None = inr (refl, refl)
+crash-one : (device : Device) (world : World) (server acting : Server) → IsOfTwo acting → (stance : Stance) (armed : Option ℕ) → CrashesOne (line.Crash server) (two_of acting stance armed) (crash device server (record { world = world; peers = two_of acting stance armed })).state.peers
+crash-one device world A A of_two Out armed = inl refl
+crash-one device world A A of_two Owed armed = inl refl
+crash-one device world A A of_two (Linking sent) armed = inl refl
+crash-one device world A A of_two (Standby on_way mark keeps) armed = inr (over-one device world A of_two on_way mark keeps armed)
+crash-one device world B B of_two Out armed = inl refl
+crash-one device world B B of_two Owed armed = inl refl
+crash-one device world B B of_two (Linking sent) armed = inl refl
+crash-one device world B B of_two (Standby on_way mark keeps) armed = inr (over-one device world B of_two on_way mark keeps armed)
+crash-one device world A B of_two Out armed = inl refl
+crash-one device world A B of_two Owed (Some left) = inl refl
+crash-one device world A B of_two (Linking sent) (Some left) = inl refl
+crash-one device world A B of_two (Standby on_way mark keeps) (Some left) = inl refl
+crash-one device world A B of_two Owed None = inr (refl, refl)
+crash-one device world A B of_two (Linking sent) None = inr (refl, refl)
+crash-one device world A B of_two (Standby on_way mark keeps) None = inr (refl, refl)
+crash-one device world B A of_two Out armed = inl refl
+crash-one device world B A of_two Owed (Some left) = inl refl
+crash-one device world B A of_two (Linking sent) (Some left) = inl refl
+crash-one device world B A of_two (Standby on_way mark keeps) (Some left) = inl refl
+crash-one device world B A of_two Owed None = inr (refl, refl)
+crash-one device world B A of_two (Linking sent) None = inr (refl, refl)
+crash-one device world B A of_two (Standby on_way mark keeps) None = inr (refl, refl)
+crash-one device world C A of_two stance armed = inl refl
+crash-one device world C B of_two stance armed = inl refl
+crash-one device world server C of_two stance armed = elim of_two [ ]
 
 crashes-one : (plain : Plain) (shelf : Shelf) (device : Device) (next : Line) (state : State Peers) (outcome : Outcome (State Peers)) → IsGroup state → GroupHappens plain shelf device next state outcome → CrashesOne next state.peers outcome.state.peers
 crashes-one plain shelf device (line.Crash server) state outcome good happens =
@@ -112,7 +114,7 @@ crashes-one plain shelf device (line.Crash server) state outcome good happens =
     let with_seats : List Seat → Peers = λ seats. record state.peers { seats = seats } in
     let C : List Seat → Type 0 = λ seats. CrashesOne (line.Crash server) (with_seats seats) (crash device server (record { world = state.world; peers = with_seats seats })).state.peers in
     subst (λ (o : Outcome (State Peers)). CrashesOne (line.Crash server) state.peers o.state.peers) (sym happens)
-    (subst C (sym two.is) (crash-one device state.world server state.peers.acting two.stance state.peers.armed))
+    (subst C (sym two.is) (crash-one device state.world server state.peers.acting two.acts two.stance state.peers.armed))
 crashes-one plain shelf device _ state outcome good happens = tt
 
 pub falls-by-cause : (held : Option Files) → OfAllLines held FallsByCause

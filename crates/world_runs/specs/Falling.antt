@@ -4,7 +4,7 @@ use Rattle.ais_values.specs.Causes.{Rose}
 use Rattle.script_lines.specs.declared.line.Line.{Line}
 use Rattle.script_lines.specs.declared.line.Line.TheVariants as line
 use Rattle.script_lines.specs.declared.line.Server.{Server}
-use Rattle.script_lines.specs.declared.line.Server.TheVariants.{A, B}
+use Rattle.script_lines.specs.declared.line.Server.TheVariants.{A, B, C}
 use Rattle.cluster_events.specs.declared.lines.ServerRole.TheVariants as role
 use Rattle.cluster_events.specs.Ending.{is_crash}
 use Rattle.group_cluster.specs.Seats.{Peers, role_of}
@@ -12,14 +12,15 @@ use Rattle.group_cluster.specs.Standing.{StayUp, IsShort}
 use Rattle.group_servers.specs.GroupCounts.{FellIn}
 use Rattle.played_runs.specs.Promises.{LineSentence}
 
-abbrev pub other_server : Server → Server
-other_server A = B
-other_server B = A
+-- this one of two servers is down, and the other one is active
+abbrev pub HasFallen : Server → Peers → Type 0
+HasFallen A new = (role_of A new ≡ role.Down) × (role_of B new ≡ role.Active)
+HasFallen B new = (role_of B new ≡ role.Down) × (role_of A new ≡ role.Active)
+HasFallen C new = ⊥
 
 -- `crash` leaves both servers as they are, where it is refused, or it takes its own server down and no other one: that is active then
 abbrev pub CrashesOne : Line → (old new : Peers) → Type 0
-CrashesOne (line.Crash server) old new =
-    (new ≡ old) ⊎ ((role_of server new ≡ role.Down) × (role_of (other_server server) new ≡ role.Active))
+CrashesOne (line.Crash server) old new = (new ≡ old) ⊎ HasFallen server new
 CrashesOne _ old new = Unit {0}
 
 -- a server goes down only by its own `crash`, where the count that was armed came to its end, or where the disk's count of faults rose
