@@ -24,7 +24,7 @@ abbrev pub is_first : Server → Bool
 is_first A = true
 is_first _ = false
 
--- of `a` and `b` the one with this name, and the other one
+-- of the first of two and the second the one with this name, and the other one; every name but the first one's counts as the second's
 abbrev pub named : {T : Type 0} → Server → T → T → T
 named acting a b = if is_first acting then a else b
 

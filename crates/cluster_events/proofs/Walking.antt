@@ -15,7 +15,9 @@ use Rattle.cluster_facts.specs.Facts.{IsSound}
 use Rattle.cluster_facts.proofs.Clients.{oldest-append}
 use Rattle.cluster_facts.proofs.Keeping.{call-new}
 use Rattle.cluster_facts.proofs.Posting.{posting_at-stands}
-use Rattle.cluster_events.specs.Lines.{Told, Posted, Injected, Declined, Refused, Stood, Listed, Shown, is_ignored}
+use Rattle.cluster_events.specs.declared.lines.Roles.{Roles}
+use Rattle.cluster_events.specs.declared.lines.Roles.TheVariants.{Two, Three}
+use Rattle.cluster_events.specs.Lines.{Told, Posted, Injected, Declined, Refused, Stood, Listed, Shown, is_ignored, listed_roles, roles_told}
 use Rattle.cluster_events.specs.declared.lines.Why.TheVariants.{Bad}
 use Rattle.cluster_events.specs.Outcomes.{Outcome}
 use Rattle.cluster_events.specs.ClientEvents.{inject, ask_by, ask, hand_out, dispatch_all_by, dispatch_all, dispatch_one_by, dispatch_one, set_time}
@@ -48,6 +50,10 @@ IsShow (Stood server role) = Unit {0}
 IsShow (Listed name count) = Unit {0}
 IsShow (Shown text) = Unit {0}
 IsShow _ = ⊥
+
+roles-show : (roles : Roles) → AllByRecursion IsShow (roles_told (listed_roles roles) [])
+roles-show (Two a b) = (tt, (tt, tt))
+roles-show (Three a b c) = (tt, (tt, (tt, tt)))
 
 -- an agent handed out these callbacks, and is otherwise as it was
 pub record HandsOut (callbacks : List Callback) (old new : Agent) : Type 0 where
@@ -215,7 +221,7 @@ module _ {P : Type 0} (plain : Plain) (is_plain : IsPlain plain) (shelf : Shelf)
       let status = dispatch_refusal (state.world.agents client) in
       subst (Walks (Dispatches client) state) (sym happens) (world-walks (Dispatches client) (dispatch_all client) state steady (dispatch_all-sound plain client state.world steady.sound) (dispatch_all-core client status state.world) (all-walks client status state.world refl steady.sound))
   line-walks line.Servers state outcome steady happens =
-      subst (Walks Others state) (sym happens) (showing-walks state (list_servers servers state).told steady (tt, (tt, tt)))
+      subst (Walks Others state) (sym happens) (showing-walks state (list_servers servers state).told steady (roles-show (servers.standing state).roles))
   line-walks line.Files state outcome steady happens =
       subst (Walks Others state) (sym happens) (showing-walks state (listed (shelf.listing state.world.core.answered) []) steady (listed-shows (shelf.listing state.world.core.answered) [] tt))
   line-walks (line.Cat name) state outcome steady happens =

@@ -2,14 +2,13 @@
 use Rattle.std.specs.Prelude.{ℕ, suc, Bool, true, false, ◌==◌, if◌then◌else◌, Option, Some, None, List, [], ◌∷◌, length}
 use Rattle.script_lines.specs.declared.line.Line.{Line}
 use Rattle.script_lines.specs.declared.line.Line.TheVariants.{Deliver, Mirror, Ack, Work, Push}
-use Rattle.script_lines.specs.declared.line.Server.TheVariants.{A as ServerA, B as ServerB}
 use Rattle.cluster_facts.specs.Types.{Call, Reply, Called, Receipted, Message, Request, Answer, Delivery, Receipt}
 use Rattle.cluster_facts.specs.Service.{Plain, answers_in, is_new}
 use Rattle.cluster_facts.specs.Agents.{resent}
 use Rattle.cluster_facts.specs.History.{Hand, Empty, Judged, New, Repeat, Old, Ahead, judged_call}
 use Rattle.cluster_facts.specs.Messages.{Posting, Spelled, Raw}
 use Rattle.cluster_facts.specs.World.{World, posting_at, number_of}
-use Rattle.cluster_events.specs.Lines.{Ignored, Refused, Stood}
+use Rattle.cluster_events.specs.Lines.{Ignored, Refused, listed_roles, roles_told}
 use Rattle.cluster_events.specs.declared.lines.Why.TheVariants.{OldRequest, AheadRequest, Busy, DoneReceipt, Bad}
 use Rattle.cluster_events.specs.Outcomes.{Outcome, quietly, telling, for_each}
 use Rattle.cluster_events.specs.Servers.{State, Servers, in_world}
@@ -104,5 +103,5 @@ push plain servers state = push_by plain servers state.world.core.hand state
 abbrev pub list_servers : {P : Type 0} → Servers P → State P → Outcome (State P)
 list_servers servers state = record {
   state = state;
-  told = Stood ServerB (servers.standing state).role_of_b ∷ Stood ServerA (servers.standing state).role_of_a ∷ [];
+  told = roles_told (listed_roles (servers.standing state).roles) [];
 }

@@ -1,10 +1,13 @@
 -- Words of public clauses: the lines that events print.
-use Rattle.std.specs.Prelude.{ℕ, Bool, true, false, List}
+use Rattle.std.specs.Prelude.{ℕ, Bool, true, false, List, [], ◌∷◌}
 use Rattle.script_lines.specs.declared.line.Line.{Line}
 use Rattle.script_lines.specs.declared.line.Server.{Server}
+use Rattle.script_lines.specs.declared.line.Server.TheVariants.{A, B, C}
 pub use Rattle.cluster_events.specs.declared.lines.ServerRole.{ServerRole}
 pub use Rattle.cluster_events.specs.declared.lines.Why.{Why}
 pub use Rattle.cluster_events.specs.declared.lines.Standing.{Standing}
+use Rattle.cluster_events.specs.declared.lines.Roles.{Roles}
+use Rattle.cluster_events.specs.declared.lines.Roles.TheVariants.{Two, Three}
 use Rattle.cluster_facts.specs.Types.{Call, Reply, Status, Entry, Callback, Message, Receipt, WireWhy}
 
 -- a line
@@ -44,3 +47,13 @@ is_progress (Committed number entry) = true
 is_progress (Replied client number call reply) = true
 is_progress (Posted number (Receipt client key through)) = true
 is_progress _ = false
+
+-- the servers with their roles, in the order in which they are shown
+abbrev pub listed_roles : Roles → List (Server × ServerRole)
+listed_roles (Two a b) = (A, a) ∷ (B, b) ∷ []
+listed_roles (Three a b c) = (A, a) ∷ (B, b) ∷ (C, c) ∷ []
+
+-- a line for each of them, the last one in front
+abbrev pub roles_told : List (Server × ServerRole) → List Told → List Told
+roles_told [] told = told
+roles_told (one ∷ others) told = roles_told others (Stood one.0 one.1 ∷ told)

@@ -4,4 +4,4 @@
 
 mod lines;
 
-pub use lines::{ServerRole, Standing, Why};
+pub use lines::{Roles, ServerRole, Standing, Why};

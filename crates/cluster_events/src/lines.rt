@@ -41,11 +41,24 @@ pub enum Why {
     Bad { front: u32, why: WireWhy },
 }
 
+/// The roles of the servers of a cluster: of two, or of three.
+#[derive(Clone, Copy, Debug, PartialEq, Eq)]
+pub enum Roles {
+    Two {
+        a: ServerRole,
+        b: ServerRole,
+    },
+    Three {
+        a: ServerRole,
+        b: ServerRole,
+        c: ServerRole,
+    },
+}
+
 /// What the line on a refused event tells.
 #[derive(Clone, Copy, Debug, PartialEq, Eq)]
 pub struct Standing {
-    pub role_of_a: ServerRole,
-    pub role_of_b: ServerRole,
+    pub roles: Roles,
     /// The lengths of the net, of the link and of the way back.
     pub net: u64,
     pub link: u64,

@@ -8,22 +8,29 @@ use Rattle.script_lines.specs.declared.line.Line.{Line}
 use Rattle.script_lines.specs.declared.line.Line.TheVariants as line
 use Rattle.plain_service.specs.Setups.{Setup}
 use Rattle.cluster_events.specs.declared.lines.Standing.{Standing}
-use Rattle.cluster_events.specs.Lines.{Told, Listed, Shown}
+use Rattle.cluster_events.specs.declared.lines.Roles.{Roles}
+use Rattle.cluster_events.specs.declared.lines.Roles.TheVariants.{Two, Three}
+use Rattle.cluster_events.specs.Lines.{Told, Listed, Shown, listed_roles, roles_told}
 use Rattle.cluster_events.specs.Servers.{State}
 use Rattle.cluster_events.specs.Running.{Shelf, listed, shown, show_by}
-use Rattle.event_text.specs.Texts.{printed, refused_line, file_line, text_line, file_text_lines, shown_lines}
+use Rattle.event_text.specs.Texts.{printed, refused_line, role_lines, file_line, text_line, file_text_lines, shown_lines}
 use Rattle.cluster_clients.specs.Files.{sizes_of, listed_lines, ListsFiles, bytes_of}
 use Rattle.cluster_rounds.specs.declared.cluster.Cluster.{Cluster}
 use Rattle.cluster_rounds.specs.Kits.{Kit, calm_servers}
 use Rattle.cluster_rounds.specs.Worlds.{Shows, IsGood, Happened, Does}
 use Rattle.cluster_lines.specs.Shelves.{shelf_at}
-use Rattle.cluster_lines.specs.Showing.{StandsAs, refused}
+use Rattle.cluster_lines.specs.Showing.{StandsAs, refused, servers_listed}
 use Rattle.cluster_lines.specs.Steps.{TellsRead, ShowsOn, file_shown, files_listed}
 
 printed-listed : (ones : List (List ℕ × ℕ)) (told : List Told) → printed (listed ones told) ≡ printed told ++ listed_lines ones
 printed-listed [] told = sym (append-nil (printed told))
 printed-listed (one ∷ ones) told =
     printed-listed ones (Listed one.0 one.1 ∷ told) ∙ append_assoc (printed told) (file_line one.0 one.1 ∷ []) (listed_lines ones)
+
+-- the lines of the servers, in order
+printed-roles : (roles : Roles) → printed (roles_told (listed_roles roles) []) ≡ role_lines (listed_roles roles)
+printed-roles (Two a b) = refl
+printed-roles (Three a b c) = refl
 
 printed-shown : (texts : List (List ℕ)) (told : List Told) → printed (shown texts told) ≡ printed told ++ shown_lines texts
 printed-shown [] told = sym (append-nil (printed told))
@@ -39,6 +46,11 @@ module _ {Peers Group : Type 0} (kit : Kit Peers Group) where
   pub refused-does : (next : Line) (world : Cluster Group) (standing : Standing) (before after : List (List ℕ)) → (StandsAs kit) world standing → after ≡ before ++ refused_line next standing ∷ [] → (Does kit) ((refused kit) next) world world before after
   refused-does next world standing before after stands is setup state good shows =
       (shows, good, is ∙ ap (λ s. before ++ refused_line next s ∷ []) (stands setup state good shows))
+
+  -- **the servers are listed**
+  pub servers-does : (world : Cluster Group) (standing : Standing) (before after : List (List ℕ)) → (StandsAs kit) world standing → after ≡ before ++ role_lines (listed_roles standing.roles) → (Does kit) (servers_listed kit) world world before after
+  servers-does world standing before after stands is setup state good shows =
+      (shows, good, is ∙ ap (λ (lines : List (List ℕ)). before ++ lines) (sym (printed-roles standing.roles) ∙ ap (λ (s : Standing). printed (roles_told (listed_roles s.roles) [])) (stands setup state good shows)))
 
   -- **the files are listed**
   pub files-shown : (world : Cluster Group) (before after lines : List (List ℕ)) (held : Option Files) → ListsFiles held lines → after ≡ before ++ lines → (ShowsOn kit) (files_listed kit) world before after held

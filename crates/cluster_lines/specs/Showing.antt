@@ -19,6 +19,6 @@ module _ {Peers Group : Type 0} (kit : Kit Peers Group) where
   abbrev pub refused : Line → Event kit
   refused next setup state = refuse (calm_servers kit setup) next state
 
-  -- both servers with their roles
+  -- all servers with their roles
   abbrev pub servers_listed : Event kit
   servers_listed setup state = list_servers (calm_servers kit setup) state

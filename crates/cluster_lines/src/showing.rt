@@ -15,8 +15,8 @@ use cluster_clients::{list_files, read_file};
 use cluster_events::Standing;
 use cluster_rounds::{Cluster, Serving};
 use disk_model::{DiskAnswer, SharedDisk};
-use event_text::{put_refused, put_server, put_shown};
-use script_lines::{Line, Server};
+use event_text::{put_refused, put_servers, put_shown};
+use script_lines::Line;
 use std::alloc::{AllocError, Global};
 
 /// Adds the line of a refused event, by how the servers stand. Where memory runs out the lines stay.
@@ -50,7 +50,7 @@ pub(crate) fn refused<S: Scripted>(
     put_refusal(alloc, world, lines, line, &standing)
 }
 
-/// Adds the lines of both servers with their roles.
+/// Adds the lines of all servers with their roles.
 pub(crate) fn show_servers<S: Scripted>(
     alloc: Global,
     world: &Cluster<S>,
@@ -60,8 +60,7 @@ pub(crate) fn show_servers<S: Scripted>(
         lines.old.items lines.new.items) }
 {
     let standing = S::standing(world);
-    put_server(alloc, lines, Server::A, standing.role_of_a)?;
-    put_server(alloc, lines, Server::B, standing.role_of_b)
+    put_servers(alloc, lines, standing.roles)
 }
 
 /// Adds the lines of all files with their lengths. `Failed` comes exactly where the disk's count of faults rose.

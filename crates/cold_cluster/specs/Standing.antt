@@ -4,6 +4,7 @@ use Rattle.std.specs.Option.{is_some}
 use Rattle.cluster_events.specs.declared.lines.Standing.{Standing}
 use Rattle.cluster_events.specs.declared.lines.ServerRole.{ServerRole}
 use Rattle.cluster_events.specs.declared.lines.ServerRole.TheVariants as role
+use Rattle.cluster_events.specs.declared.lines.Roles.TheVariants.{Two}
 use Rattle.cluster_events.specs.Servers.{State}
 use Rattle.group_cluster.specs.Seats.{standing_group}
 use Rattle.cold_cluster.specs.Cold.{Alone, paired}
@@ -19,12 +20,10 @@ role_up false = role.Active
 -- what is on the way, and in hand, is shown while the server is up
 abbrev pub shown_up : Bool → State Alone → Standing
 shown_up true state = record (standing_group (paired state)) {
-  role_of_a = role_up (any_armed state.peers);
-  role_of_b = role.Journal;
+  roles = Two (role_up (any_armed state.peers)) role.Journal;
 }
 shown_up false state = record {
-  role_of_a = role.Down;
-  role_of_b = role.Journal;
+  roles = Two role.Down role.Journal;
   net = length state.world.net;
   link = 0;
   back = 0;

@@ -4,9 +4,10 @@ use Rattle.std.specs.Fmt.{decimal, signed_decimal}
 use Rattle.std.specs.List.{join_by}
 use Rattle.ais_values.specs.Statuses.{status_word}
 use Rattle.script_language.specs.Printing.{server_text, stream_text, shown_note_text, line_text}
-use Rattle.event_text.specs.Texts.{why_text, role_text, hand_text, trimmed, text_line}
+use Rattle.cluster_events.specs.Lines.{listed_roles}
+use Rattle.event_text.specs.Texts.{why_text, role_text, roles_text, hand_text, trimmed, text_line}
 use Rattle.event_text.specs.declared.pieces.Piece.{Piece}
-use Rattle.event_text.specs.declared.pieces.Piece.TheVariants.{Word, Number, Signed, Answer, Note, Stream, Script, Ids, Reason, Role, Hand, Node}
+use Rattle.event_text.specs.declared.pieces.Piece.TheVariants.{Word, Number, Signed, Answer, Note, Stream, Script, Ids, Reason, Role, Roles, Hand, Node}
 
 abbrev pub piece_text : Piece → List ℕ
 piece_text (Word word) = word.now
@@ -19,6 +20,7 @@ piece_text (Script line) = line_text line.now
 piece_text (Ids ids) = join_by decimal (codes ",") ids.now
 piece_text (Reason why) = why_text why
 piece_text (Role role) = role_text role
+piece_text (Roles roles) = roles_text (listed_roles roles)
 piece_text (Hand number) = hand_text number
 piece_text (Node server) = server_text server
 

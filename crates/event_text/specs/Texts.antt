@@ -15,7 +15,9 @@ use Rattle.cluster_events.specs.declared.lines.Why.{Why}
 use Rattle.cluster_events.specs.declared.lines.Why.TheVariants.{OldRequest, AheadRequest, Busy, DoneReceipt, ServerDown, AnsweredReply}
 use Rattle.cluster_events.specs.declared.lines.Why.TheVariants.{Left, TakenItem, AheadItem, GoneItem, Bad}
 use Rattle.cluster_events.specs.declared.lines.Standing.{Standing}
-use Rattle.cluster_events.specs.Lines.{Told, Posted, Injected, Committed, Replied, Declined, HandedOut, Dispatched, Ignored, Refused, Stood, Listed, Shown}
+use Rattle.script_lines.specs.declared.line.Server.{Server}
+use Rattle.cluster_events.specs.Lines.{Told, Posted, Injected, Committed, Replied, Declined, HandedOut, Dispatched, Ignored}
+use Rattle.cluster_events.specs.Lines.{Refused, Stood, Listed, Shown, listed_roles}
 
 abbrev pub line_end : List ℕ
 line_end = 10 ∷ []
@@ -148,6 +150,11 @@ role_text Joining = codes "joining"
 role_text Down = codes "down"
 role_text Journal = codes "journal"
 
+-- servers with their roles, as the line on a refused event has them
+abbrev pub roles_text : List (Server × ServerRole) → List ℕ
+roles_text [] = []
+roles_text (one ∷ others) = (codes " " ++ (server_text one.0 ++ (codes "=" ++ role_text one.1))) ++ roles_text others
+
 -- the number of the entry in hand, or a dash
 abbrev pub hand_text : Option ℕ → List ℕ
 hand_text None = codes "-"
@@ -158,8 +165,7 @@ unfoldable pub refused_line : Rattle.script_lines.specs.declared.line.Line.Line 
 refused_line line standing =
     joined (
     codes "refused " ∷ line_text line
-    ∷ codes " a=" ∷ role_text standing.role_of_a
-    ∷ codes " b=" ∷ role_text standing.role_of_b
+    ∷ roles_text (listed_roles standing.roles)
     ∷ codes " net=" ∷ decimal standing.net
     ∷ codes " link=" ∷ decimal standing.link
     ∷ codes " back=" ∷ decimal standing.back
@@ -167,8 +173,13 @@ refused_line line standing =
     ∷ line_end ∷ []
     )
 
-unfoldable pub server_line : Rattle.script_lines.specs.declared.line.Server.Server → ServerRole → List ℕ
+unfoldable pub server_line : Server → ServerRole → List ℕ
 server_line server role = joined (codes "server " ∷ server_text server ∷ codes " " ∷ role_text role ∷ line_end ∷ [])
+
+-- a line for each server
+abbrev pub role_lines : List (Server × ServerRole) → List (List ℕ)
+role_lines [] = []
+role_lines (one ∷ others) = server_line one.0 one.1 ∷ role_lines others
 
 unfoldable pub file_line : List ℕ → ℕ → List ℕ
 file_line name size = joined (codes "file " ∷ name ∷ codes " " ∷ decimal size ∷ line_end ∷ [])

@@ -1,11 +1,12 @@
 //! Lines on the net, the history, servers and files.
 ghost use Rattle.std.specs.Prelude.{◌≡◌, ◌++◌, ◌∷◌, [], OnOk, OnErr};
-ghost use Rattle.event_text.specs.Texts.{post_lines, raw_line, entry_line, ignored_line, refused_line, server_line, file_line, text_line};
+ghost use Rattle.cluster_events.specs.Lines.{listed_roles};
+ghost use Rattle.event_text.specs.Texts.{post_lines, raw_line, entry_line, ignored_line, refused_line, role_lines, server_line, file_line, text_line};
 
 use crate::pieces::{Piece, put_line};
 use ais_values::Seq;
 use calls::Entry;
-use cluster_events::{ServerRole, Standing, Why};
+use cluster_events::{Roles, ServerRole, Standing, Why};
 use script_lines::{Line, Server};
 use std::alloc::{AllocError, Global};
 use wire::Message;
@@ -212,10 +213,7 @@ pub fn put_refused(
         &[
             Piece::Word(b"refused "),
             Piece::Script(line),
-            Piece::Word(b" a="),
-            Piece::Role(standing.role_of_a),
-            Piece::Word(b" b="),
-            Piece::Role(standing.role_of_b),
+            Piece::Roles(standing.roles),
             Piece::Word(b" net="),
             Piece::Number(standing.net),
             Piece::Word(b" link="),
@@ -251,6 +249,23 @@ pub fn put_server(
             Piece::Word(b"\n"),
         ],
     )
+}
+
+/// Adds a line for each server with its role. Where memory runs out some may be added.
+pub fn put_servers(alloc: Global, lines: &mut Vec<Seq<u8>>, roles: Roles) -> Result<(), AllocError>
+    ensures { OnOk result (lines.new.items ≡ lines.old.items ++ role_lines (listed_roles roles)) }
+{
+    match roles {
+        Roles::Two { a, b } => {
+            put_server(alloc, lines, Server::A, a)?;
+            put_server(alloc, lines, Server::B, b)
+        }
+        Roles::Three { a, b, c } => {
+            put_server(alloc, lines, Server::A, a)?;
+            put_server(alloc, lines, Server::B, b)?;
+            put_server(alloc, lines, Server::C, c)
+        }
+    }
 }
 
 /// Adds the line of a file with its length. Where memory runs out nothing is added.

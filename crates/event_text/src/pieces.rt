@@ -2,11 +2,12 @@
 ghost use Rattle.std.specs.Prelude.{◌≡◌, ◌++◌, ◌∷◌, [], OnOk, OnErr, codes};
 ghost use Rattle.std.specs.Fmt.{decimal};
 ghost use Rattle.std.specs.List.{flat_map, join_by};
-ghost use Rattle.event_text.specs.Texts.{fault_text, why_text, role_text};
+ghost use Rattle.cluster_events.specs.Lines.{listed_roles};
+ghost use Rattle.event_text.specs.Texts.{fault_text, why_text, role_text, roles_text};
 ghost use Rattle.event_text.specs.Pieces.{piece_text};
 
 use ais_values::{Seq, Status};
-use cluster_events::{ServerRole, Why};
+use cluster_events::{Roles, ServerRole, Why};
 use ntf_types::Notification;
 use script_lines::{Line, Server};
 use script_printer::{
@@ -37,6 +38,8 @@ pub(crate) enum Piece<'a> {
     Ids(&'a [u64]),
     Reason(Why),
     Role(ServerRole),
+    /// The servers with their roles.
+    Roles(Roles),
     /// The number of the entry in hand.
     Hand(Option<u64>),
     Node(Server),
@@ -134,6 +137,36 @@ pub fn role_word(role: ServerRole) -> &'static str
     }
 }
 
+/// Adds the word of a server and its role.
+#[tactic(auto, using(script_printer::proofs::Chain::chained))]
+fn put_role(out: &mut Vec<u8>, word: &[u8], role: ServerRole) -> Result<(), AllocError>
+    ensures { OnOk result (out.new.items ≡ out.old.items ++ (word.now ++ role_text role)) }
+{
+    put(out, word)?;
+    put(out, role_word(role).as_bytes())?;
+    Ok(())
+}
+
+/// Adds the servers with their roles.
+#[tactic(auto, using(script_printer::proofs::Chain::chained))]
+fn put_roles(out: &mut Vec<u8>, roles: Roles) -> Result<(), AllocError>
+    ensures { OnOk result (out.new.items ≡ out.old.items ++ roles_text (listed_roles roles)) }
+{
+    match roles {
+        Roles::Two { a, b } => {
+            put_role(out, b" a=", a)?;
+            put_role(out, b" b=", b)?;
+            Ok(())
+        }
+        Roles::Three { a, b, c } => {
+            put_role(out, b" a=", a)?;
+            put_role(out, b" b=", b)?;
+            put_role(out, b" c=", c)?;
+            Ok(())
+        }
+    }
+}
+
 /// Adds a piece.
 fn put_piece(out: &mut Vec<u8>, piece: &Piece) -> Result<(), AllocError>
     ensures { OnOk result (out.new.items ≡ out.old.items ++ piece_text piece.now) }
@@ -149,6 +182,7 @@ fn put_piece(out: &mut Vec<u8>, piece: &Piece) -> Result<(), AllocError>
         Piece::Ids(ids) => put_ids(out, ids),
         Piece::Reason(why) => put_why(out, *why),
         Piece::Role(role) => put(out, role_word(*role).as_bytes()),
+        Piece::Roles(roles) => put_roles(out, *roles),
         Piece::Hand(Some(number)) => put_number(out, *number),
         Piece::Hand(None) => put(out, b"-"),
         Piece::Node(Server::A) => put(out, b"a"),

@@ -14,6 +14,7 @@ use Rattle.cluster_events.specs.ClientEvents.{ask, dispatch_one, dispatch_all}
 use Rattle.script_lines.specs.declared.line.Line.TheVariants.{Deliver, Push}
 use Rattle.script_lines.specs.declared.line.Server.TheVariants.{A, B}
 use Rattle.cluster_events.specs.declared.lines.ServerRole.TheVariants.{Active, Down}
+use Rattle.cluster_events.specs.declared.lines.Roles.TheVariants.{Two}
 use Rattle.cluster_events.specs.Events.{deliver, push}
 use Rattle.cluster_events.specs.Settling.{round, is_loud}
 use Rattle.group_cluster.specs.Seats.{Peers, Out}
@@ -80,11 +81,11 @@ ahead : (deliver ready (alone ready) 2 begun.state).told ≡ Ignored 2 because.A
 ahead = refl
 
 -- while an entry is in hand nothing is pushed
-push_refused : (push ready (alone ready) (deliver ready (alone ready) 1 begun.state).state).told ≡ Refused Push (record { role_of_a = Active; role_of_b = Down; net = 2; link = 0; back = 0; in_hand = Some 1 }) ∷ []
+push_refused : (push ready (alone ready) (deliver ready (alone ready) 1 begun.state).state).told ≡ Refused Push (record { roles = Two Active Down; net = 2; link = 0; back = 0; in_hand = Some 1 }) ∷ []
 push_refused = refl
 
 -- a message that was not posted cannot be delivered
-deliver_refused : (deliver ready (alone ready) 3 begun.state).told ≡ Refused (Deliver 3) (record { role_of_a = Active; role_of_b = Down; net = 2; link = 0; back = 0; in_hand = None }) ∷ []
+deliver_refused : (deliver ready (alone ready) 3 begun.state).told ≡ Refused (Deliver 3) (record { roles = Two Active Down; net = 2; link = 0; back = 0; in_hand = None }) ∷ []
 deliver_refused = refl
 
 -- with one place for callbacks the reply of a second write is left, and its call stays unanswered

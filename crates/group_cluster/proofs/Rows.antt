@@ -12,6 +12,7 @@ use Rattle.cluster_facts.specs.Service.{Plain}
 use Rattle.cluster_events.specs.Lines.{Posted, Committed, Replied, HandedOut, Dispatched, Ignored, Refused, Stood}
 use Rattle.cluster_events.specs.declared.lines.Why.TheVariants as because
 use Rattle.cluster_events.specs.declared.lines.ServerRole.TheVariants.{Active, Armed, Standby, Joining, Down}
+use Rattle.cluster_events.specs.declared.lines.Roles.TheVariants.{Two}
 use Rattle.cluster_events.specs.Outcomes.{Outcome, and_then}
 use Rattle.cluster_events.specs.Servers.{State, Servers, in_world}
 use Rattle.cluster_events.specs.Devices.{Device}
@@ -125,7 +126,7 @@ worked_then = refl
 abbrev armed : State Peers
 armed = (arm A 5 start).state
 
-pub standby_serves : (crash B armed).told ≡ Refused (line.Crash B) (record { role_of_a = Armed; role_of_b = Standby; net = 0; link = 0; back = 0; in_hand = None }) ∷ []
+pub standby_serves : (crash B armed).told ≡ Refused (line.Crash B) (record { roles = Two Armed Standby; net = 0; link = 0; back = 0; in_hand = None }) ∷ []
 standby_serves = refl
 
 pub armed_listed : (list_servers calm armed).told ≡ Stood B Standby ∷ Stood A Armed ∷ []
@@ -172,7 +173,7 @@ alone_ready = crash B (deliver ready calm 3 sent).state
 pub commits_then : alone_ready.told ≡ Stood B Down ∷ Committed 2 (Called 1 2 (pos 5) write) ∷ []
 commits_then = refl
 
-pub snapshot_owed : (mirror_next calm (restart B alone_ready.state).state).told ≡ Refused line.Mirror (record { role_of_a = Active; role_of_b = Joining; net = 3; link = 0; back = 0; in_hand = Some 2 }) ∷ []
+pub snapshot_owed : (mirror_next calm (restart B alone_ready.state).state).told ≡ Refused line.Mirror (record { roles = Two Active Joining; net = 3; link = 0; back = 0; in_hand = Some 2 }) ∷ []
 snapshot_owed = refl
 
 pub snapshot_sent : (mirror_next calm (work_next calm (restart B alone_ready.state).state).state).told ≡ Stood B Standby ∷ []
@@ -180,19 +181,19 @@ snapshot_sent = refl
 
 -- Refusals.
 
-pub down_twice : (crash B down).told ≡ Refused (line.Crash B) (record { role_of_a = Active; role_of_b = Down; net = 0; link = 0; back = 0; in_hand = None }) ∷ []
+pub down_twice : (crash B down).told ≡ Refused (line.Crash B) (record { roles = Two Active Down; net = 0; link = 0; back = 0; in_hand = None }) ∷ []
 down_twice = refl
 
-pub last_stays : (crash A down).told ≡ Refused (line.Crash A) (record { role_of_a = Active; role_of_b = Down; net = 0; link = 0; back = 0; in_hand = None }) ∷ []
+pub last_stays : (crash A down).told ≡ Refused (line.Crash A) (record { roles = Two Active Down; net = 0; link = 0; back = 0; in_hand = None }) ∷ []
 last_stays = refl
 
-pub last_unarmed : (arm A 1 down).told ≡ Refused (line.Arm A 1) (record { role_of_a = Active; role_of_b = Down; net = 0; link = 0; back = 0; in_hand = None }) ∷ []
+pub last_unarmed : (arm A 1 down).told ≡ Refused (line.Arm A 1) (record { roles = Two Active Down; net = 0; link = 0; back = 0; in_hand = None }) ∷ []
 last_unarmed = refl
 
-pub standby_unarmed : (arm B 1 start).told ≡ Refused (line.Arm B 1) (record { role_of_a = Active; role_of_b = Standby; net = 0; link = 0; back = 0; in_hand = None }) ∷ []
+pub standby_unarmed : (arm B 1 start).told ≡ Refused (line.Arm B 1) (record { roles = Two Active Standby; net = 0; link = 0; back = 0; in_hand = None }) ∷ []
 standby_unarmed = refl
 
-pub standing_again : (restart A start).told ≡ Refused (line.Restart A) (record { role_of_a = Active; role_of_b = Standby; net = 0; link = 0; back = 0; in_hand = None }) ∷ []
+pub standing_again : (restart A start).told ≡ Refused (line.Restart A) (record { roles = Two Active Standby; net = 0; link = 0; back = 0; in_hand = None }) ∷ []
 standing_again = refl
 
 -- A fault in the work of a server that has no standby ends the run, and so does one in a takeover.

@@ -7,6 +7,7 @@ use Rattle.cluster_facts.specs.Types.{Entry}
 use Rattle.cluster_facts.specs.History.{Hand, Empty, Waiting, Applied, Ready}
 use Rattle.cluster_events.specs.declared.lines.ServerRole.{ServerRole}
 use Rattle.cluster_events.specs.declared.lines.ServerRole.TheVariants as role
+use Rattle.cluster_events.specs.declared.lines.Roles.TheVariants.{Two}
 use Rattle.cluster_events.specs.declared.lines.Standing.{Standing}
 use Rattle.cluster_events.specs.Servers.{State}
 
@@ -218,8 +219,7 @@ standing_group state =
     let past = state.world.core.answered in
     let hand = state.world.core.hand in
     record {
-      role_of_a = role_of A state.peers;
-      role_of_b = role_of B state.peers;
+      roles = Two (role_of A state.peers) (role_of B state.peers);
       net = length state.world.net;
       link = links past hand state.peers.seats;
       back = backs past state.peers.seats;

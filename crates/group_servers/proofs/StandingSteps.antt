@@ -9,6 +9,7 @@ use Rattle.plain_service.specs.Setups.{Setup}
 use Rattle.cluster_facts.specs.Types.{Entry}
 use Rattle.cluster_facts.specs.History.{Hand, Empty, Waiting, Applied, Ready}
 use Rattle.cluster_events.specs.declared.lines.Standing.{Standing}
+use Rattle.cluster_events.specs.declared.lines.Roles.TheVariants.{Two}
 use Rattle.cluster_events.specs.Servers.{State}
 use Rattle.event_text.specs.Texts.{refused_line}
 use Rattle.mirror.specs.Replicas.{number_in_hand}
@@ -136,8 +137,7 @@ module _ (n : ℕ) where
       let links_few = links-few core.answered core.hand owns in
       let backs_few = backs-few core.answered owns in
       let S : Group n → ℕ → Standing = λ servers net. record {
-        role_of_a = role_in A servers;
-        role_of_b = role_in B servers;
+        roles = Two (role_in A servers) (role_in B servers);
         net = net;
         link = links_of servers.seats;
         back = backs_of servers.seats;
@@ -146,8 +146,7 @@ module _ (n : ℕ) where
       in
       (λ i. S (shows.own i) (sym (spelled-length state.world.net world.net shows.net) i))
       ∙ (λ i. record {
-        role_of_a = role-is n setup state A i;
-        role_of_b = role-is n setup state B i;
+        roles = Two (role-is n setup state A i) (role-is n setup state B i);
         net = length state.world.net;
         link = links-are setup core.answered core.hand owns (omega arith) i;
         back = backs-are setup core.answered core.hand owns (omega arith) i;

@@ -6,6 +6,7 @@ use Rattle.mirror.specs.declared.heard.Role.{Role}
 use Rattle.mirror.specs.declared.heard.Role.TheVariants as role
 use Rattle.mirror.specs.Replicas.{number_in_hand}
 use Rattle.cluster_events.specs.declared.lines.ServerRole.{ServerRole}
+use Rattle.cluster_events.specs.declared.lines.Roles.TheVariants.{Two}
 use Rattle.cluster_events.specs.declared.lines.Standing.{Standing}
 use Rattle.lead_server.specs.Roles.{role_shown}
 use Rattle.group_cluster.specs.Seats.{same_server}
@@ -39,8 +40,7 @@ backs_of (seat ∷ seats) = saturated (length seat.back) (backs_of seats)
 -- the servers' roles and the lengths of the lists of messages
 abbrev pub standing_as : {n : ℕ} → Cluster (Group n) → Standing
 standing_as world = record {
-  role_of_a = role_in server.A world.servers;
-  role_of_b = role_in server.B world.servers;
+  roles = Two (role_in server.A world.servers) (role_in server.B world.servers);
   net = length world.net;
   link = links_of world.servers.seats;
   back = backs_of world.servers.seats;

@@ -8,7 +8,7 @@ ghost use Rattle.group_servers.specs.Standing.{role_at, role_in, links_of, backs
 use crate::seats::same_server;
 use crate::{Group, Seat};
 use ais_values::Seq;
-use cluster_events::{ServerRole, Standing};
+use cluster_events::{Roles, ServerRole, Standing};
 use cluster_rounds::Cluster;
 use event_text::put_refused;
 use lead_server::role_shown;
@@ -67,8 +67,10 @@ pub fn standing_of<const N: usize>(world: &Cluster<Group<N>>) -> Standing
     ensures { result ≡ standing_as world.entry.now }
 {
     Standing {
-        role_of_a: role_of(&world.servers, Server::A),
-        role_of_b: role_of(&world.servers, Server::B),
+        roles: Roles::Two {
+            a: role_of(&world.servers, Server::A),
+            b: role_of(&world.servers, Server::B),
+        },
         net: world.net.len(),
         link: links_of(&world.servers.seats),
         back: backs_of(&world.servers.seats),

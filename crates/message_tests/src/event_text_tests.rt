@@ -1,10 +1,10 @@
 //! The lines of events, against the written rules.
 use ais_values::{ClassId, Name, Seq, Status, Text};
 use calls::{Boxed, Call, Callback, Entry, Reply};
-use cluster_events::{ServerRole, Standing, Why};
+use cluster_events::{Roles, ServerRole, Standing, Why};
 use event_text::{
     put_callback, put_declined, put_dispatched, put_entry, put_file, put_ignored, put_post,
-    put_raw, put_refused, put_reply, put_server, put_shown, put_text,
+    put_raw, put_refused, put_reply, put_server, put_servers, put_shown, put_text,
 };
 use ntf_types::{Body, Notification};
 use script_lines::{Line, Server};
@@ -43,10 +43,10 @@ fn accept(rt: &impl Abort, alloc: Global, number: u64, entry: Entry, want: &[u8]
     are(rt, alloc, lines, want);
 }
 
-fn refuse(rt: &impl Abort, alloc: Global, line: Line, want: &[u8]) {
+fn refuse(rt: &impl Abort, alloc: Global, server: Server, roles: Roles, want: &[u8]) {
+    let line = Line::Crash { server };
     let standing = Standing {
-        role_of_a: ServerRole::Armed,
-        role_of_b: ServerRole::Standby,
+        roles,
         net: 0,
         link: 0,
         back: 0,
@@ -189,9 +189,19 @@ fn tells_of_what_has_no_effect(rt: HostRuntime) {
     put_ignored(alloc, &mut lines, 9, Why::ServerDown).expect(&rt, "memory");
     let told = b"ignored 7 taken\nignored 8 busy 12\nignored 9 down\n".as_slice();
     are(&rt, alloc, lines, told);
-    let crash = Line::Crash { server: Server::B };
+    let two = Roles::Two {
+        a: ServerRole::Armed,
+        b: ServerRole::Standby,
+    };
     let told = b"refused crash b a=armed b=standby net=0 link=0 back=0 hand=-\n".as_slice();
-    refuse(&rt, alloc, crash, told);
+    refuse(&rt, alloc, Server::B, two, told);
+    let three = Roles::Three {
+        a: ServerRole::Armed,
+        b: ServerRole::Down,
+        c: ServerRole::Standby,
+    };
+    let told = b"refused crash c a=armed b=down c=standby net=0 link=0 back=0 hand=-\n".as_slice();
+    refuse(&rt, alloc, Server::C, three, told);
 }
 
 #[test]
@@ -200,12 +210,18 @@ fn tells_of_servers_and_files(rt: HostRuntime) {
     let mut lines = Vec::new(alloc);
     put_server(alloc, &mut lines, Server::A, ServerRole::Armed).expect(&rt, "memory");
     put_server(alloc, &mut lines, Server::B, ServerRole::Journal).expect(&rt, "memory");
+    let three = Roles::Three {
+        a: ServerRole::Down,
+        b: ServerRole::Down,
+        c: ServerRole::Active,
+    };
+    put_servers(alloc, &mut lines, three).expect(&rt, "memory");
     put_file(alloc, &mut lines, b"saLogSystem.cfg", 164).expect(&rt, "memory");
     are(
         &rt,
         alloc,
         lines,
-        b"server a armed\nserver b journal\nfile saLogSystem.cfg 164\n",
+        b"server a armed\nserver b journal\nserver a down\nserver b down\nserver c active\nfile saLogSystem.cfg 164\n",
     );
 }
 
