@@ -156,6 +156,6 @@ abbrev pub ColdHappens : Plain → Shelf → Device → Line → State Alone →
 ColdHappens plain shelf device next state outcome = HappensBy state.peers.up plain shelf device next state outcome
 
 -- Whole runs, with any mark. Calls are counted by the deeds of an entry behind a history.
-abbrev pub ColdStepBy : {M : Type 0} → Plain → Shelf → (List Entry → Entry → ℕ) → StepBy M Alone
+abbrev pub ColdStepBy : {M : Type 0} → Plain → Shelf → (List Entry → Entry → ℕ) → StepBy M Line Alone
 ColdStepBy plain shelf calls before next state outcome after =
     ColdHappens plain shelf (record { calls = calls; fails = λ number. 0 }) next state outcome

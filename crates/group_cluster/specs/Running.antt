@@ -29,5 +29,5 @@ pub record GroupStep (plain : Plain) (shelf : Shelf) (calls : List Entry → Ent
   pub happens : GroupHappens plain shelf (record { calls = calls; fails = fails }) next state outcome
   pub caused : IsCaused before after fails
 
-abbrev pub GroupStepBy : Plain → Shelf → (List Entry → Entry → ℕ) → StepBy ℕ Peers
+abbrev pub GroupStepBy : Plain → Shelf → (List Entry → Entry → ℕ) → StepBy ℕ Line Peers
 GroupStepBy plain shelf calls before next state outcome after = GroupStep plain shelf calls before next state outcome after
