@@ -8,7 +8,6 @@ use Rattle.std.proofs.lemmas.List.{length-map}
 use Rattle.disk_model.specs.Counts.{Counters, read_more}
 use Rattle.disk_model.specs.Disk.{Files}
 use Rattle.disk_model.specs.Seen.{DiskSeen}
-use Rattle.script_lines.specs.declared.line.Line.{Line}
 use Rattle.plain_service.specs.Setups.{Setup}
 use Rattle.played_runs.specs.declared.ending.End.{End}
 use Rattle.played_runs.specs.declared.ending.Status8.{Status8}
@@ -56,14 +55,14 @@ held-none (Some f) names listed none =
 pub names-told : (held left : DiskSeen) → left.files ≡ held.files → left.tally ≡ read_more 1 held.tally → left.faults ≡ held.faults → left.stops ≡ held.stops → left ≡ names_told held
 names-told held left same counted stood stopped = λ i. record { files = same i; tally = counted i; faults = stood i; stops = stopped i }
 
-module _ {P S W : Type 0} (game : Game P S W) where
+module _ {P L S W : Type 0} (game : Game P L S W) where
   -- Lines behind the opening, and the whole script.
 
   -- the beginning of a script that was played
-  abbrev pub front-of : (held : Option Files) (first : Counters) (opening : Line) (events done rest : List Line) (setup : Setup) (places : ℕ) (text : List ℕ) → game.Begins opening setup places → HoldsNone held → events ≡ done ++ rest → (Goes game) setup places held (behind_opening setup first) done text → (PlaysFront game) held first (opening ∷ events) done rest text
+  abbrev pub front-of : (held : Option Files) (first : Counters) (opening : L) (events done rest : List L) (setup : Setup) (places : ℕ) (text : List ℕ) → game.Begins opening setup places → HoldsNone held → events ≡ done ++ rest → (Goes game) setup places held (behind_opening setup first) done text → (PlaysFront game) held first (opening ∷ events) done rest text
   front-of held first opening events done rest setup places text begins empty parts goes = record {
     opening = opening;
-    parts = ap (λ (behind : List Line). opening ∷ behind) parts;
+    parts = ap (λ (behind : List L). opening ∷ behind) parts;
     empty = empty;
     setup = setup;
     places = places;
@@ -76,7 +75,7 @@ module _ {P S W : Type 0} (game : Game P S W) where
     abbrev Played : D → D → Stage W K D
     Played old new = stage (edge told sink_faults out out_after) shows old new world world_after
 
-    events-of : (old new : D) (opening : Line) (events : List Line) (setup : Setup) (places : ℕ) → game.Begins opening setup places → HoldsNone (shows old).files → (reached : Option Status8) (text : List ℕ) → (EventsEnd game) setup places (shows old).files (behind_opening setup (counters_of (shows old))) (shows new) (StoodUpTo shows) world_after events reached text → PlayEnds game (opening ∷ events) (Played old new) reached text
+    events-of : (old new : D) (opening : L) (events : List L) (setup : Setup) (places : ℕ) → game.Begins opening setup places → HoldsNone (shows old).files → (reached : Option Status8) (text : List ℕ) → (EventsEnd game) setup places (shows old).files (behind_opening setup (counters_of (shows old))) (shows new) (StoodUpTo shows) world_after events reached text → PlayEnds game (opening ∷ events) (Played old new) reached text
     events-of old new opening events setup places begins empty None text ends = (
       ends.0,
       ends.1,
@@ -106,14 +105,14 @@ module _ {P S W : Type 0} (game : Game P S W) where
     events-of old new opening events setup places begins empty (Some Inseparable) text ends = absurd ends
 
     -- the names were asked for before and the cluster was begun, and the disk counted what that counts
-    pub events-play : (old mid new : D) (opening : Line) (events : List Line) (setup : Setup) (places : ℕ) → game.Begins opening setup places → HoldsNone (shows old).files → counters_of (shows mid) ≡ behind_opening setup (counters_of (shows old)) → (reached : Option Status8) (text : List ℕ) → (EventsEnd game) setup places (shows old).files (counters_of (shows mid)) (shows new) (StoodUpTo shows) world_after events reached text → PlayEnds game (opening ∷ events) (Played old new) reached text
+    pub events-play : (old mid new : D) (opening : L) (events : List L) (setup : Setup) (places : ℕ) → game.Begins opening setup places → HoldsNone (shows old).files → counters_of (shows mid) ≡ behind_opening setup (counters_of (shows old)) → (reached : Option Status8) (text : List ℕ) → (EventsEnd game) setup places (shows old).files (counters_of (shows mid)) (shows new) (StoodUpTo shows) world_after events reached text → PlayEnds game (opening ∷ events) (Played old new) reached text
     events-play old mid new opening events setup places begins empty counted reached text ends =
         let E : Counters → Type 0 = λ first. (EventsEnd game) setup places (shows old).files first (shows new) (StoodUpTo shows) world_after events reached text in
         events-of old new opening events setup places begins empty reached text (subst E counted ends)
 
-    pub events-lack : (old mid new : D) (opening : Line) (events : List Line) (setup : Setup) (places : ℕ) → game.Begins opening setup places → HoldsNone (shows old).files → counters_of (shows mid) ≡ behind_opening setup (counters_of (shows old)) → (text : List ℕ) → (LacksBehind game) setup places (shows old).files (counters_of (shows mid)) (shows new) world_after events text → PlayLacks game (opening ∷ events) (Played old new) text
+    pub events-lack : (old mid new : D) (opening : L) (events : List L) (setup : Setup) (places : ℕ) → game.Begins opening setup places → HoldsNone (shows old).files → counters_of (shows mid) ≡ behind_opening setup (counters_of (shows old)) → (text : List ℕ) → (LacksBehind game) setup places (shows old).files (counters_of (shows mid)) (shows new) world_after events text → PlayLacks game (opening ∷ events) (Played old new) text
     events-lack old mid new opening events setup places begins empty counted text broke =
-        let L : Counters → Type 0 = λ first. (LacksBehind game) setup places (shows old).files first (shows new) world_after events text in
-        let moved = subst L counted broke in
+        let Lacked : Counters → Type 0 = λ first. (LacksBehind game) setup places (shows old).files first (shows new) world_after events text in
+        let moved = subst Lacked counted broke in
         let behind = moved.behind in
         InEvent behind.done behind.next behind.rest (front-of (shows old).files (counters_of (shows old)) opening events behind.done (behind.next ∷ behind.rest) setup places text begins empty behind.parts behind.goes) moved.broken moved.lacks

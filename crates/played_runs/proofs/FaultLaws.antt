@@ -1,11 +1,9 @@
 -- What is promised where a fault of the disk ended a run holds.
-use Rattle.std.proofs.Common.{◌≡◌, ℕ, ℤ, inl, inr, Bool, false, if◌then◌else◌, List, [], ◌∷◌, ◌++◌, Option, Some, None, refl, ap, sym, subst}
+use Rattle.std.proofs.Common.{◌≡◌, ℕ, ℤ, inl, inr, Bool, true, false, if◌then◌else◌, List, [], ◌∷◌, ◌++◌, Option, Some, None, refl, ap, sym, subst}
 use Rattle.std.specs.Prelude.{IfSome}
 use Rattle.disk_model.specs.Counts.{Counters}
 use Rattle.disk_model.specs.Disk.{Files}
 use Rattle.disk_model.specs.Seen.{DiskSeen}
-use Rattle.script_lines.specs.declared.line.Line.{Line}
-use Rattle.script_lines.specs.declared.line.Line.TheVariants as line
 use Rattle.plain_service.specs.Setups.{Setup, CanBegin}
 use Rattle.plain_service.specs.Storing.{files_of}
 use Rattle.cluster_facts.specs.Types.{Call, Reply, StreamName, Mark, Entry, Called, Receipted, Answer}
@@ -23,7 +21,7 @@ use Rattle.cluster_facts.proofs.Words.{by_test, All-at, EndsIn-stands}
 use Rattle.cluster_facts.proofs.Growing.{IsLegal-before}
 use Rattle.cluster_facts.proofs.Posting.{answers_to-posted}
 use Rattle.cluster_events.specs.Lines.{Told}
-use Rattle.cluster_events.specs.Ending.{LacksLast, is_crash}
+use Rattle.cluster_events.specs.Ending.{LacksLast}
 use Rattle.cluster_events.specs.Saying.{Says, replies_told, IsDone}
 use Rattle.cluster_events.specs.Filing.{FilesStand, RecordsStay}
 use Rattle.cluster_events.proofs.Dealing.{answers-dealt}
@@ -116,10 +114,10 @@ if-same : (left : Option Files) (files : Files) (P : Files → Type 0) → IfSom
 if-same None files P same holds = tt
 if-same (Some one) files P same holds = subst P (sym same) holds
 
-module _ {P S W : Type 0} (game : Game P S W) (is_game : IsGame game) where
+module _ {P L S W : Type 0} (game : Game P L S W) (is_game : IsGame game) where
   -- A fault behind lines that were played.
 
-  module _ (setup : Setup) (places : ℕ) (held : Option Files) (first : Counters) (played : List Line) (text_before : List ℕ) (goes : (Goes game) setup places held first played text_before) where
+  module _ (setup : Setup) (places : ℕ) (held : Option Files) (first : Counters) (played : List L) (text_before : List ℕ) (goes : (Goes game) setup places held first played text_before) where
     -- the files that the lines left are those of the history
     files-stand : goes.files ≡ files_of setup goes.state.world.core.answered
     files-stand =
@@ -127,11 +125,11 @@ module _ {P S W : Type 0} (game : Game P S W) (is_game : IsGame game) where
         played-files game is_game setup places held first goes.good.begins goes.run (answered-range core.answered core.hand goes.good.range)
 
     -- the last entry is unanswered, but behind a crash
-    leaves-unanswered : (next : Line) (world : World) (told : List Told) → (is_crash next ≡ false → IsUnanswered world.core.answered (messages_in world.net) told) → LeavesUnanswered next world told
-    leaves-unanswered (line.Crash server) world told lacks = tt
-    leaves-unanswered next world told lacks = lacks refl
+    leaves-unanswered : (crashes : Bool) (world : World) (told : List Told) → (crashes ≡ false → IsUnanswered world.core.answered (messages_in world.net) told) → LeavesUnanswered crashes world told
+    leaves-unanswered true world told lacks = tt
+    leaves-unanswered false world told lacks = lacks refl
 
-    ended-keeps : (next : Line) (told : List Told) (left : DiskSeen) (world : W) → (ended : game.Ended setup goes.state next told ((seen_behind game) goes) left world) → EndKeeps setup next (game.end setup goes.state next told ((seen_behind game) goes) left world ended).state.world ((game.end setup goes.state next told ((seen_behind game) goes) left world ended).told ++ goes.told) left.files
+    ended-keeps : (next : L) (told : List Told) (left : DiskSeen) (world : W) → (ended : game.Ended setup goes.state next told ((seen_behind game) goes) left world) → EndKeeps setup (game.crashes next) (game.end setup goes.state next told ((seen_behind game) goes) left world ended).state.world ((game.end setup goes.state next told ((seen_behind game) goes) left world ended).told ++ goes.told) left.files
     ended-keeps next told left world ended =
         let plain = plain_of setup in
         let last = game.end setup goes.state next told ((seen_behind game) goes) left world ended in
@@ -153,11 +151,11 @@ module _ {P S W : Type 0} (game : Game P S W) (is_game : IsGame game) where
           promises = promises;
           tells = each-told setup end promises.items;
           answers = answers-only setup start end lines sound empty says;
-          unanswered = leaves-unanswered next end lines (λ calm. unanswered setup start end lines sound empty says past (facts.lacks calm));
+          unanswered = leaves-unanswered (game.crashes next) end lines (λ calm. unanswered setup start end lines sound empty says past (facts.lacks calm));
           records = left-between setup past (files_told goes.files held) left.files (RecordsKept setup past) leaves (λ files between. records-kept setup goes.good.begins end.now past files (legal-now setup start end lines sound empty says) range between);
         }
 
-    fault-keeps : (next : Line) (left : DiskSeen) (world : W) (lines : List ℕ) (fault : FaultLeft game setup goes.state next ((seen_behind game) goes) left world lines) → (FaultKeeps game) setup goes.state next ((seen_behind game) goes) left world lines goes.told fault
+    fault-keeps : (next : L) (left : DiskSeen) (world : W) (lines : List ℕ) (fault : FaultLeft game setup goes.state next ((seen_behind game) goes) left world lines) → (FaultKeeps game) setup goes.state next ((seen_behind game) goes) left world lines goes.told fault
     fault-keeps next left world lines (Showing shows_files shows read rose none) =
         let core = goes.state.world.core in
         let one = told-same held left.files goes.files read.files in
@@ -168,7 +166,7 @@ module _ {P S W : Type 0} (game : Game P S W) (is_game : IsGame game) where
     fault-keeps next left world lines (Ending told ended printed) =
         let end = game.end setup goes.state next told ((seen_behind game) goes) left world ended in
         let stands = is_game.stands setup goes.state next told ((seen_behind game) goes) left world ended in
-        let K : List Told → Type 0 = λ one. EndKeeps setup next end.state.world (one ++ goes.told) left.files in
+        let K : List Told → Type 0 = λ one. EndKeeps setup (game.crashes next) end.state.world (one ++ goes.told) left.files in
         subst K (sym stands.printed) (ended-keeps next told left world ended)
 
   pub keeps-at-fault : (held : Option Files) (left : DiskSeen) (world : W) → (KeepsAtFault game) held left world

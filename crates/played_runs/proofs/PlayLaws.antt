@@ -2,7 +2,6 @@
 use Rattle.std.proofs.Common.{◌≡◌, ℕ, List, [], Option, ap, subst}
 use Rattle.disk_model.specs.Counts.{Counters}
 use Rattle.disk_model.specs.Disk.{Files, no_files}
-use Rattle.script_lines.specs.declared.line.Line.{Line}
 use Rattle.plain_service.specs.Setups.{Setup, CanBegin}
 use Rattle.cluster_facts.specs.Types.{Entry}
 use Rattle.cluster_facts.specs.Storage.{all_applied}
@@ -40,7 +39,7 @@ answered-range past (Waiting entry) range = range.1
 answered-range past (Applied entry) range = range.1
 answered-range past (Ready entry) range = range.1
 
-module _ {P S W : Type 0} (game : Game P S W) (is_game : IsGame game) where
+module _ {P L S W : Type 0} (game : Game P L S W) (is_game : IsGame game) where
   -- each line that is played keeps the facts, and says what it must
   played-kept : (setup : Setup) (held : Option Files) → IsKept (plain_of setup) game.kit.Good (game.Step setup held)
   played-kept setup held = record { kept = λ before next state outcome after steady done. (is_game.done setup held before next state outcome after steady done).keeps }
@@ -50,22 +49,22 @@ module _ {P S W : Type 0} (game : Game P S W) (is_game : IsGame game) where
 
   module _ (setup : Setup) (places : ℕ) (held : Option Files) (first : Counters) where
     -- lines lead from the start to a state of which the facts hold, and say what lies between
-    pub played-says : {lines : List Line} {state : State P} {told : List Told} {left : Files × Counters} → (Ran game) setup places held first lines state told left → IsSteady (plain_of setup) game.kit.Good state × Says (plain_of setup) (empty_world setup.start places) state.world told
+    pub played-says : {lines : List L} {state : State P} {told : List Told} {left : Files × Counters} → (Ran game) setup places held first lines state told left → IsSteady (plain_of setup) game.kit.Good state × Says (plain_of setup) (empty_world setup.start places) state.world told
     played-says {state = state} {told = told} run =
         let said = any-says (plain_of setup) game.kit.Good (StepOnDisk (game.Step setup held) service_disk (storage_of setup)) (ran-kept setup held) (game.start setup places) (opening_files setup, first) (is_game.steady setup places) run in
         (said.0, subst (λ (world : World). Says (plain_of setup) world state.world told) (is_game.empty setup places) said.1)
 
-    pub played-keeps : {lines : List Line} {state : State P} {told : List Told} {left : Files × Counters} → (Ran game) setup places held first lines state told left → AtEnd (plain_of setup) state.world told
+    pub played-keeps : {lines : List L} {state : State P} {told : List Told} {left : Files × Counters} → (Ran game) setup places held first lines state told left → AtEnd (plain_of setup) state.world told
     played-keeps run =
         any-keeps (plain_of setup) game.kit.Good (StepOnDisk (game.Step setup held) service_disk (storage_of setup)) (ran-kept setup held) (game.start setup places) (opening_files setup, first) (is_game.steady setup places) setup.start places (is_game.empty setup places) run
 
     -- what holds of each line holds of all lines that are played
-    each-ran : (Q : LineSentence P) → ((lines : List Line) (state : State P) (told : List Told) (before : Files × Counters) (next : Line) (outcome : Outcome (State P)) (after : Counters) → (Ran game) setup places held first lines state told before → game.Step setup held before.1 next state outcome after → Q before.1 next told state outcome after) → {lines : List Line} {state : State P} {told : List Told} {left : Files × Counters} → (run : (Ran game) setup places held first lines state told left) → OfEachLine Q run
+    each-ran : (Q : LineSentence L P) → ((lines : List L) (state : State P) (told : List Told) (before : Files × Counters) (next : L) (outcome : Outcome (State P)) (after : Counters) → (Ran game) setup places held first lines state told before → game.Step setup held before.1 next state outcome after → Q before.1 next told state outcome after) → {lines : List L} {state : State P} {told : List Told} {left : Files × Counters} → (run : (Ran game) setup places held first lines state told left) → OfEachLine Q run
     each-ran Q so Started = tt
     each-ran Q so (Went {lines = lines} {state = state} {told = told} {before = before} next outcome after run step) =
         (so lines state told before next outcome after.1 run step.step, each-ran Q so run)
 
-  pub each-played : (held : Option Files) (Q : Setup → LineSentence P) → ((setup : Setup) (places : ℕ) (first : Counters) (lines : List Line) (state : State P) (told : List Told) (before : Files × Counters) (next : Line) (outcome : Outcome (State P)) (after : Counters) → (Ran game) setup places held first lines state told before → game.Step setup held before.1 next state outcome after → Q setup before.1 next told state outcome after) → (OfAllLinesOf game) held Q
+  pub each-played : (held : Option Files) (Q : Setup → LineSentence L P) → ((setup : Setup) (places : ℕ) (first : Counters) (lines : List L) (state : State P) (told : List Told) (before : Files × Counters) (next : L) (outcome : Outcome (State P)) (after : Counters) → (Ran game) setup places held first lines state told before → game.Step setup held before.1 next state outcome after → Q setup before.1 next told state outcome after) → (OfAllLinesOf game) held Q
   each-played held Q so first script done rest text front =
       let start = behind_opening front.setup first in
       each-ran front.setup front.places held start (Q front.setup) (so front.setup front.places start) front.goes.run
@@ -77,11 +76,11 @@ module _ {P S W : Type 0} (game : Game P S W) (is_game : IsGame game) where
     begun-empty = ap (λ (world : World). world.core.answered) (is_game.empty setup places)
 
     -- the files are those of the history without the entry in hand
-    pub played-files : {lines : List Line} {state : State P} {told : List Told} {left : Files × Counters} → (Ran game) setup places held first lines state told left → AreInRange state.world.core.answered → left.0 ≡ (storage_of setup).files state.world.core.answered
+    pub played-files : {lines : List L} {state : State P} {told : List Told} {left : Files × Counters} → (Ran game) setup places held first lines state told left → AreInRange state.world.core.answered → left.0 ≡ (storage_of setup).files state.world.core.answered
     played-files run range =
         any-stand (plain_of setup) game.kit.Good (game.Step setup held) (played-kept setup held) service_disk (storage_of setup) (is_storage setup can) (game.start setup places) first begun-empty (is_game.steady setup places) run range
 
     -- what was answered as stored stands at its place
-    pub played-stays : {lines : List Line} {state : State P} {told : List Told} {left : Files × Counters} → (Ran game) setup places held first lines state told left → AreInRange state.world.core.answered → RecordsStay (plain_of setup) service_disk (storage_of setup) state.world left.0
+    pub played-stays : {lines : List L} {state : State P} {told : List Told} {left : Files × Counters} → (Ran game) setup places held first lines state told left → AreInRange state.world.core.answered → RecordsStay (plain_of setup) service_disk (storage_of setup) state.world left.0
     played-stays run range =
         any-stays (plain_of setup) game.kit.Good (game.Step setup held) (played-kept setup held) service_disk (storage_of setup) (is_storage setup can) (game.start setup places) first begun-empty (is_game.steady setup places) run range

@@ -1,5 +1,5 @@
 -- What is promised at the end of each line holds throughout.
-use Rattle.std.proofs.Common.{ℕ, List, Option, subst}
+use Rattle.std.proofs.Common.{◌≡◌, ℕ, List, Option, Some, refl, subst}
 use Rattle.disk_model.specs.Counts.{Counters}
 use Rattle.disk_model.specs.Disk.{Files}
 use Rattle.script_lines.specs.declared.line.Line.{Line}
@@ -8,9 +8,11 @@ use Rattle.plain_service.specs.Setups.{Setup, CanBegin}
 use Rattle.plain_service.proofs.RecordLaws.{record-alone}
 use Rattle.cluster_facts.specs.Types.{Entry}
 use Rattle.cluster_facts.specs.Ranges.{AreInRange}
+use Rattle.cluster_facts.specs.World.{World}
 use Rattle.cluster_events.specs.Lines.{Told}
 use Rattle.cluster_events.specs.Servers.{State}
 use Rattle.cluster_events.specs.OnDisk.{StepOnDisk}
+use Rattle.cluster_events.specs.Settled.{IsSettled}
 use Rattle.cluster_events.specs.Runs.RunBy.{Started, Went}
 use Rattle.cluster_events.proofs.Filed.{answered-legal}
 use Rattle.cluster_events.proofs.OnDisk.{range-before}
@@ -22,13 +24,13 @@ use Rattle.service_laws.proofs.HistoryLaws.{history-of}
 use Rattle.played_runs.specs.Games.{Game}
 use Rattle.played_runs.specs.Laws.{IsGame}
 use Rattle.played_runs.specs.Playing.{Ran}
-use Rattle.played_runs.specs.Promises.{Sentence, Throughout, KeepsOneHistory, RepliesRightly, ReadsRightly, CallsBack, PrintsPosts, KeepsFiles, KeepsRecords, StandsOnce, SettlesAll}
+use Rattle.played_runs.specs.Promises.{Sentence, Throughout, KeepsOneHistory, RepliesRightly, ReadsRightly, CallsBack, PrintsPosts, KeepsFiles, KeepsRecords, StandsOnce, IsSettledBy, SettlesAll}
 use Rattle.played_runs.specs.Views.{behind_opening}
 use Rattle.played_runs.proofs.PlayLaws.{opening_files, played-says, played-keeps, played-files, played-stays, answered-range}
 
-module _ {P S W : Type 0} (game : Game P S W) (is_game : IsGame game) where
+module _ {P L S W : Type 0} (game : Game P L S W) (is_game : IsGame game) where
   -- a sentence that holds of all lines that were played holds at the end of each of them
-  pub throughout : (held : Option Files) (Q : Setup → Sentence) → ((setup : Setup) (places : ℕ) (held : Option Files) (first : Counters) → CanBegin setup → (lines : List Line) (state : State P) (told : List Told) (left : Files × Counters) → (Ran game) setup places held first lines state told left → AreInRange state.world.core.answered → Q setup lines state.world told left.0) → (Throughout game) held Q
+  pub throughout : (held : Option Files) (Q : Setup → Sentence L) → ((setup : Setup) (places : ℕ) (held : Option Files) (first : Counters) → CanBegin setup → (lines : List L) (state : State P) (told : List Told) (left : Files × Counters) → (Ran game) setup places held first lines state told left → AreInRange state.world.core.answered → Q setup lines state.world told left.0) → (Throughout game) held Q
   throughout held Q always first script done rest text front =
       let setup = front.setup in
       let plays = front.goes in
@@ -67,11 +69,14 @@ module _ {P S W : Type 0} (game : Game P S W) (is_game : IsGame game) where
       let legal = answered-legal (plain_of setup) world.now world.core.answered world.core.hand facts.legal in
       record-alone setup world.core.answered client other_client number other_number stored other spot (history-of setup can world.now world.core.answered legal range) own others at other_at)
 
-  settled : (setup : Setup) (places : ℕ) (held : Option Files) (first : Counters) {lines : List Line} {state : State P} {told : List Told} {left : Files × Counters} → (Ran game) setup places held first lines state told left → SettlesAll setup lines state.world told left.0
-  settled setup places held first Started = tt
-  settled setup places held first (Went {state = state} {before = before} line.Settle outcome after run step) =
-      is_game.settles setup held before.1 state outcome after.1 (played-says game is_game setup places held first run).0 step.step
-  settled setup places held first (Went _ outcome after run step) = tt
+  settled-by : (setup : Setup) (world : World) (next : Option Line) → (next ≡ Some line.Settle → IsSettled (plain_of setup) world) → IsSettledBy setup next world
+  settled-by setup world (Some line.Settle) settles = settles refl
+  settled-by setup world _ settles = tt
 
-  pub settles-all : (held : Option Files) → (Throughout game) held SettlesAll
-  settles-all held = throughout held SettlesAll (λ setup places told_first first can lines state told files run range. settled setup places told_first first run)
+  settled : (setup : Setup) (places : ℕ) (held : Option Files) (first : Counters) {lines : List L} {state : State P} {told : List Told} {left : Files × Counters} → (Ran game) setup places held first lines state told left → SettlesAll game.shared setup lines state.world told left.0
+  settled setup places held first Started = tt
+  settled setup places held first (Went {state = state} {before = before} next outcome after run step) =
+      settled-by setup outcome.state.world (game.shared next) (λ is. is_game.settles setup held before.1 next state outcome after.1 is (played-says game is_game setup places held first run).0 step.step)
+
+  pub settles-all : (held : Option Files) → (Throughout game) held (SettlesAll game.shared)
+  settles-all held = throughout held (SettlesAll game.shared) (λ setup places told_first first can lines state told files run range. settled setup places told_first first run)

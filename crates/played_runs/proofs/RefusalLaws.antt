@@ -17,11 +17,11 @@ use Rattle.cluster_events.specs.Cores.{IsCored}
 use Rattle.cluster_events.specs.Saying.{replies_told}
 use Rattle.cluster_events.proofs.Promised.{gathered-without, gathered-handed}
 use Rattle.cluster_events.proofs.Telling.{gathered-append}
-use Rattle.cluster_events.proofs.Walking.{Others, kind_of, IsShow, IsByKind}
+use Rattle.cluster_events.proofs.Walking.{Others, IsShow, IsByKind}
 use Rattle.cluster_events.proofs.Carrying.{IsTold}
 use Rattle.service_laws.specs.PlainOf.{plain_of}
 use Rattle.played_runs.specs.Games.{Game}
-use Rattle.played_runs.specs.Kinds.{KeepsWaiting, Refuses, refused_of}
+use Rattle.played_runs.specs.Kinds.{KeepsWaiting, Refuses, refused_of, kind_by}
 use Rattle.played_runs.specs.Laws.{IsGame}
 use Rattle.played_runs.specs.Promises.{OfAllLines}
 use Rattle.played_runs.specs.Refusing.{call_refused, holds_service, rows_of_refusal, rows_of_dispatch, refused_as, refused_by, refusal_in, refusals_told, refusals_due, DeclinesRightly}
@@ -100,17 +100,17 @@ dispatched-due : (setup : Setup) (client : ℕ) (world : World) → IsSound (pla
 dispatched-due setup client world sound =
     ap (λ (status : Option Status). refused_as client status) (dispatch-refused (world.agents client) (sent_by client (messages_in world.net)) _ (sound.facts.clients client).sends)
 
-refused-due : (setup : Setup) (next : Line) (told : List Told) (world : World) → IsSound (plain_of setup) world → KeepsWaiting world told → refused_of (kind_of next) world ≡ refusals_due next told (messages_in world.net)
-refused-due setup (line.Log client asked) told world sound waits = asked-due setup client asked told world sound waits
-refused-due setup (line.Ntf client asked) told world sound waits = asked-due setup client asked told world sound waits
-refused-due setup (line.DispatchOne client) told world sound waits = dispatched-due setup client world sound
-refused-due setup (line.DispatchAll client workers) told world sound waits = dispatched-due setup client world sound
+refused-due : (setup : Setup) (next : Option Line) (told : List Told) (world : World) → IsSound (plain_of setup) world → KeepsWaiting world told → refused_of (kind_by next) world ≡ refusals_due next told (messages_in world.net)
+refused-due setup (Some (line.Log client asked)) told world sound waits = asked-due setup client asked told world sound waits
+refused-due setup (Some (line.Ntf client asked)) told world sound waits = asked-due setup client asked told world sound waits
+refused-due setup (Some (line.DispatchOne client)) told world sound waits = dispatched-due setup client world sound
+refused-due setup (Some (line.DispatchAll client workers)) told world sound waits = dispatched-due setup client world sound
 refused-due setup _ told world sound waits = refl
 
-module _ {P S W : Type 0} (game : Game P S W) (is_game : IsGame game) where
-  pub declines-rightly : (held : Option Files) → (OfAllLines game) held DeclinesRightly
+module _ {P L S W : Type 0} (game : Game P L S W) (is_game : IsGame game) where
+  pub declines-rightly : (held : Option Files) → (OfAllLines game) held (DeclinesRightly game.shared)
   declines-rightly held =
-      each-played game is_game held (λ setup. DeclinesRightly) (λ setup places first lines state told before next outcome after run done.
+      each-played game is_game held (λ setup. DeclinesRightly game.shared) (λ setup places first lines state told before next outcome after run done.
       let steady = (played-says game is_game setup places held first run).0 in
       (is_game.done setup held before.1 next state outcome after steady done).refuses
-      ∙ refused-due setup next told state.world steady.sound (played-waits game is_game setup places held first run))
+      ∙ refused-due setup (game.shared next) told state.world steady.sound (played-waits game is_game setup places held first run))

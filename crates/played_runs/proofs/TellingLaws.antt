@@ -21,7 +21,7 @@ pub each-told : (setup : Setup) (world : World) → ItemsInOrder (plain_of setup
 each-told setup world items client key =
     first-told setup world.core.answered (sent_by client (messages_in world.net)) client key (taken_of key (receipts_of client (messages_in world.net)) (items_in (fed_of (world.agents client)))) (items client key)
 
-module _ {P S W : Type 0} (game : Game P S W) (is_game : IsGame game) where
+module _ {P L S W : Type 0} (game : Game P L S W) (is_game : IsGame game) where
   pub tells-once : (held : Option Files) → (Throughout game) held TellsOnce
   tells-once held = throughout game is_game held TellsOnce (λ setup places told_first first can lines state told files run range. each-told setup state.world (played-keeps game is_game setup places told_first first run).items)
 

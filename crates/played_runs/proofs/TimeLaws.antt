@@ -1,5 +1,5 @@
 -- The time in force behind a line; and the entries that it commits, which are of the time in force as they were accepted.
-use Rattle.std.proofs.Common.{◌≡◌, ℕ, ℤ, inl, inr, Option, List, [], ◌∷◌, ◌++◌, length, refl, sym, ◌∙◌, subst}
+use Rattle.std.proofs.Common.{◌≡◌, ℕ, ℤ, inl, inr, Option, Some, List, [], ◌∷◌, ◌++◌, length, refl, sym, ◌∙◌, subst}
 use Rattle.std.specs.List.{AllByRecursion}
 use Rattle.disk_model.specs.Counts.{Counters}
 use Rattle.disk_model.specs.Disk.{Files}
@@ -16,21 +16,21 @@ use Rattle.cluster_events.specs.Cores.{IsCored}
 use Rattle.cluster_events.specs.Saying.{entry_in, entries_told}
 use Rattle.cluster_events.specs.Serving.{IsSteady}
 use Rattle.cluster_events.proofs.Promised.{gathered-without, gathered-handed}
-use Rattle.cluster_events.proofs.Walking.{Kind, Times, Others, kind_of, IsShow, IsByKind}
+use Rattle.cluster_events.proofs.Walking.{Kind, Times, Others, IsShow, IsByKind}
 use Rattle.cluster_events.proofs.Carrying.{IsTold}
 use Rattle.cluster_rounds.specs.Timely.{IsTimely}
 use Rattle.cluster_rounds.proofs.UnaskedSteps.{timely-both, waits-before, waits-same}
 use Rattle.service_laws.specs.PlainOf.{plain_of}
 use Rattle.played_runs.specs.Games.{Game}
-use Rattle.played_runs.specs.Kinds.{InTime, time_by}
+use Rattle.played_runs.specs.Kinds.{InTime, time_by, kind_by}
 use Rattle.played_runs.specs.Laws.{IsGame}
 use Rattle.played_runs.specs.Promises.{OfAllLines, CommitsInTime}
 use Rattle.played_runs.specs.Steps.{time_behind}
 use Rattle.played_runs.proofs.PlayLaws.{each-played, played-says}
 
 -- the time in force behind a line
-time-by : (now : ℤ) (next : Line) → time_by now (kind_of next) ≡ time_behind now next
-time-by now (line.Time later) = refl
+time-by : (now : ℤ) (next : Option Line) → time_by now (kind_by next) ≡ time_behind now next
+time-by now (Some (line.Time later)) = refl
 time-by now _ = refl
 
 -- an event that leaves the hand, and commits nothing
@@ -92,11 +92,11 @@ in_time-by-kind plain = record {
   };
 }
 
-module _ {P S W : Type 0} (game : Game P S W) (is_game : IsGame game) where
+module _ {P L S W : Type 0} (game : Game P L S W) (is_game : IsGame game) where
   -- the time in force behind a line
-  pub line-now : (setup : Setup) (held : Option Files) (before : Counters) (next : Line) (state : State P) (outcome : Outcome (State P)) (after : Counters) → IsSteady (plain_of setup) game.kit.Good state → game.Step setup held before next state outcome after → outcome.state.world.now ≡ time_behind state.world.now next
+  pub line-now : (setup : Setup) (held : Option Files) (before : Counters) (next : L) (state : State P) (outcome : Outcome (State P)) (after : Counters) → IsSteady (plain_of setup) game.kit.Good state → game.Step setup held before next state outcome after → outcome.state.world.now ≡ time_behind state.world.now (game.shared next)
   line-now setup held before next state outcome after steady done =
-      (is_game.done setup held before next state outcome after steady done).in_time.now ∙ time-by state.world.now next
+      (is_game.done setup held before next state outcome after steady done).in_time.now ∙ time-by state.world.now (game.shared next)
 
   pub commits-in-time : (held : Option Files) → (OfAllLines game) held CommitsInTime
   commits-in-time held =

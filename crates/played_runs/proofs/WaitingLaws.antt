@@ -3,7 +3,6 @@ use Rattle.std.proofs.Common.{◌≡◌, ℕ, ◌<◌, ◌||◌, ◌==◌, Bool,
 use Rattle.std.specs.List.{AllByRecursion}
 use Rattle.disk_model.specs.Counts.{Counters}
 use Rattle.disk_model.specs.Disk.{Files}
-use Rattle.script_lines.specs.declared.line.Line.{Line}
 use Rattle.plain_service.specs.Setups.{Setup}
 use Rattle.cluster_facts.specs.Types.{Call, Reply, Callback, Request}
 use Rattle.cluster_facts.specs.Lists.{without}
@@ -19,11 +18,11 @@ use Rattle.cluster_events.specs.Cores.{IsCored, with_core}
 use Rattle.cluster_events.specs.Saying.{reply_in, replies_told, IsDone}
 use Rattle.cluster_events.specs.Runs.RunBy.{Started, Went}
 use Rattle.cluster_events.proofs.Promised.{gathered-without, gathered-handed}
-use Rattle.cluster_events.proofs.Walking.{Kind, Asks, kind_of, IsShow, IsByKind}
+use Rattle.cluster_events.proofs.Walking.{Kind, Asks, IsShow, IsByKind}
 use Rattle.cluster_events.proofs.Carrying.{IsTold}
 use Rattle.cluster_events.proofs.Telling.{gathered-append}
 use Rattle.played_runs.specs.Games.{Game}
-use Rattle.played_runs.specs.Kinds.{AreBelow, KeepsWaiting, Passes, Waits}
+use Rattle.played_runs.specs.Kinds.{AreBelow, KeepsWaiting, Passes, Waits, kind_by}
 use Rattle.played_runs.specs.Laws.{IsGame}
 use Rattle.played_runs.specs.Playing.{Ran}
 use Rattle.played_runs.specs.Refusing.{is_replied, waiting_of}
@@ -199,12 +198,12 @@ waits-behind : (kind : Kind) (old new : World) (before told : List Told) → Wai
 waits-behind (Asks client asked) old new before told goes below waits = goes before below waits
 waits-behind _ old new before told goes below waits = waits-on old new before told waits goes
 
-module _ {P S W : Type 0} (game : Game P S W) (is_game : IsGame game) where
-  pub played-waits : (setup : Setup) (places : ℕ) (held : Option Files) (first : Counters) {lines : List Line} {state : State P} {told : List Told} {left : Files × Counters} → (Ran game) setup places held first lines state told left → KeepsWaiting state.world told
+module _ {P L S W : Type 0} (game : Game P L S W) (is_game : IsGame game) where
+  pub played-waits : (setup : Setup) (places : ℕ) (held : Option Files) (first : Counters) {lines : List L} {state : State P} {told : List Told} {left : Files × Counters} → (Ran game) setup places held first lines state told left → KeepsWaiting state.world told
   played-waits setup places held first Started =
       subst (λ (world : World). KeepsWaiting world []) (sym (is_game.empty setup places)) (λ client. refl)
   played-waits setup places held first (Went {state = state} {told = told} {before = before} next outcome after run step) =
       let says = played-says game is_game setup places held first run in
       let below : AreBelow state.world told = λ client. All-map (λ (reply : ℕ × Reply). IsDone (state.world.agents client) reply.0) (λ (reply : ℕ × Reply). reply.0 < (state.world.agents client).next) (replies_told client told) (λ reply done. done.sent) (says.1.replies client).done in
       let walks = (is_game.done setup held before.1 next state outcome after.1 says.0 step.step).waits in
-      waits-behind (kind_of next) state.world outcome.state.world told outcome.told walks below (played-waits setup places held first run)
+      waits-behind (kind_by (game.shared next)) state.world outcome.state.world told outcome.told walks below (played-waits setup places held first run)

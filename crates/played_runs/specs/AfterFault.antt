@@ -1,10 +1,8 @@
 -- Words of public clauses: what is promised where a fault of the disk ended a run.
-use Rattle.std.specs.Prelude.{◌≡◌, ℕ, true, List, [], ◌∷◌, ◌++◌, Option, Some, IfSome}
+use Rattle.std.specs.Prelude.{◌≡◌, ℕ, Bool, true, false, List, [], ◌∷◌, ◌++◌, Option, Some, IfSome}
 use Rattle.disk_model.specs.Counts.{Counters}
 use Rattle.disk_model.specs.Disk.{Files}
 use Rattle.disk_model.specs.Seen.{DiskSeen}
-use Rattle.script_lines.specs.declared.line.Line.{Line}
-use Rattle.script_lines.specs.declared.line.Line.TheVariants as line
 use Rattle.plain_service.specs.Setups.{Setup}
 use Rattle.plain_service.specs.Records.{StoredRecord, record_of, place_of, is_stored}
 use Rattle.cluster_facts.specs.Types.{Call, Reply, Entry, Called, Message, Answer}
@@ -48,17 +46,17 @@ IsUnanswered _ messages told = Unit {0}
 
 -- where the fault came in an entry's work, or in the takeover behind it, that entry is the last one. Where it came in the takeover behind a
 -- crash, the last entry may be answered, though its own record may be unfinished
-abbrev pub LeavesUnanswered : Line → World → List Told → Type 0
-LeavesUnanswered (line.Crash server) world told = Unit {0}
-LeavesUnanswered next world told = IsUnanswered world.core.answered (messages_in world.net) told
+abbrev pub LeavesUnanswered : (crashes : Bool) → World → List Told → Type 0
+LeavesUnanswered true world told = Unit {0}
+LeavesUnanswered false world told = IsUnanswered world.core.answered (messages_in world.net) told
 
 -- the disk had a fault that left no server active: history, replies, callbacks and posts are as at the end of a line, with all lines
 -- that were told, and the disk, where it tells its files, keeps what was answered before the last entry
-pub record EndKeeps (setup : Setup) (next : Line) (world : World) (told : List Told) (left : Option Files) : Type 0 where
+pub record EndKeeps (setup : Setup) (crashes : Bool) (world : World) (told : List Told) (left : Option Files) : Type 0 where
   pub promises : AtEnd (plain_of setup) world told
   pub tells : TellsEach setup world
   pub answers : AnswersOnly setup world
-  pub unanswered : LeavesUnanswered next world told
+  pub unanswered : LeavesUnanswered crashes world told
   pub records : IfSome left (λ files. RecordsKept setup world.core.answered files)
 
 -- the disk had a fault as its files were shown: where it tells them, they are those of the history, and what was answered as
@@ -67,21 +65,21 @@ pub record ShowKeeps (setup : Setup) (world : World) (left : Option Files) : Typ
   pub stand : IfSome left (λ files. FilesStand service_disk (storage_of setup) world files)
   pub stays : IfSome left (λ files. RecordsStay (plain_of setup) service_disk (storage_of setup) world files)
 
-module _ {P S W : Type 0} (game : Game P S W) where
+module _ {P L S W : Type 0} (game : Game P L S W) where
   -- by what the fault left behind these lines
   abbrev pub FaultKeeps :
-      (setup : Setup) (state : State P) (next : Line) (held left : DiskSeen) (world : W) (lines : List ℕ) (before : List Told)
+      (setup : Setup) (state : State P) (next : L) (held left : DiskSeen) (world : W) (lines : List ℕ) (before : List Told)
       → FaultLeft game setup state next held left world lines → Type 0
   FaultKeeps setup state next held left world lines before (Showing shows_files shows read rose none) =
       ShowKeeps setup state.world left.files
   FaultKeeps setup state next held left world lines before (Ending told ended printed) =
-      EndKeeps setup next (game.end setup state next told held left world ended).state.world (told ++ before) left.files
+      EndKeeps setup (game.crashes next) (game.end setup state next told held left world ended).state.world (told ++ before) left.files
 
   -- so it is behind each front of a script that was played on a disk that told these files before, wherever a fault in the next line
   -- left the world and the disk as they are now
   abbrev pub KeepsAtFault : (held : Option Files) (left : DiskSeen) (world : W) → Type 0
   KeepsAtFault held left world =
-      (first : Counters) (script done rest : List Line) (next : Line) (text lines : List ℕ)
+      (first : Counters) (script done rest : List L) (next : L) (text lines : List ℕ)
       (front : (PlaysFront game) held first script done (next ∷ rest) text)
       (fault : FaultLeft game front.setup front.goes.state next ((seen_behind game) front.goes) left world lines)
       → FaultKeeps front.setup front.goes.state next ((seen_behind game) front.goes) left world lines front.goes.told fault

@@ -4,7 +4,6 @@ use Rattle.std.specs.FinMap as files
 use Rattle.disk_model.specs.Counts.{Counters}
 use Rattle.disk_model.specs.Disk.{Files}
 use Rattle.disk_model.specs.Seen.{DiskSeen}
-use Rattle.script_lines.specs.declared.line.Line.{Line}
 use Rattle.plain_service.specs.Setups.{Setup}
 use Rattle.cluster_events.specs.Lines.{Told}
 use Rattle.cluster_events.specs.Servers.{State}
@@ -29,9 +28,9 @@ unfoldable pub fault_line : List ℕ
 fault_line = codes "disk fault\n"
 
 -- the first line of a script begins a cluster, on a disk that holds no file
-pub record Opens {P S W : Type 0} (game : Game P S W) (script : List Line) (held : Option Files) : Type 0 where
-  pub opening : Line
-  pub events : List Line
+pub record Opens {P L S W : Type 0} (game : Game P L S W) (script : List L) (held : Option Files) : Type 0 where
+  pub opening : L
+  pub events : List L
   pub parts : script ≡ opening ∷ events
   pub empty : HoldsNone held
   pub setup : Setup
@@ -40,10 +39,10 @@ pub record Opens {P S W : Type 0} (game : Game P S W) (script : List Line) (held
 
 -- what a fault in the event of a line left: a line that shows files left all as it was; any other, which is `work`, `settle` or a `crash`
 -- of the active server, ended where no server was left that is active
-pub data FaultLeft {P S W : Type 0} (game : Game P S W) (setup : Setup) (state : State P) (next : Line) (held left : DiskSeen) (world : W)
+pub data FaultLeft {P L S W : Type 0} (game : Game P L S W) (setup : Setup) (state : State P) (next : L) (held left : DiskSeen) (world : W)
     (lines : List ℕ) : Type 0 where
   Showing :
-      shows_files next ≡ true → (Shows game) setup state world → IsRead held left → HasRisen (held.faults, left.faults) → lines ≡ []
+      shows_files (game.shared next) ≡ true → (Shows game) setup state world → IsRead held left → HasRisen (held.faults, left.faults) → lines ≡ []
       → FaultLeft game setup state next held left world lines
   Ending :
       (told : List Told) → game.Ended setup state next told held left world → lines ≡ text_of told
@@ -59,14 +58,14 @@ pub record StoodUpTo {D : Type 0} (shows : D → DiskSeen) (held : Option Files)
 -- the disk failed: as its names were asked for, in the deeds of the start, or in an event behind those that were done, of which
 -- some lines were printed; its counts go along with these from the first on, so that the one in the event came where no other
 -- server was in service
-pub data DiskFails {P S W K D : Type 0} (game : Game P S W) (script : List Line) (scene : Stage W K D) (text : List ℕ) : Type 0 where
+pub data DiskFails {P L S W K D : Type 0} (game : Game P L S W) (script : List L) (scene : Stage W K D) (text : List ℕ) : Type 0 where
   AtNames :
       NamesFailed (disk_held scene) (disk_left scene) → scene.world_after ≡ scene.world → text ≡ fault_line → DiskFails game script scene text
   AtOpening :
       (opens : Opens game script (before scene.disk)) → FailedDeeds opens.setup (names_told (disk_held scene)) (disk_left scene)
       → scene.world_after ≡ scene.world → text ≡ fault_line → DiskFails game script scene text
   AtEvent :
-      (done : List Line) (next : Line) (rest : List Line) (text_before : List ℕ)
+      (done : List L) (next : L) (rest : List L) (text_before : List ℕ)
       (front : (PlaysFront game) (before scene.disk) (first_count scene) script done (next ∷ rest) text_before)
       (lines : List ℕ)
       → FaultLeft game front.setup front.goes.state next ((seen_behind game) front.goes) (disk_left scene) scene.world_after lines
@@ -74,28 +73,28 @@ pub data DiskFails {P S W K D : Type 0} (game : Game P S W) (script : List Line)
       → DiskFails game script scene text
 
 -- these events of a script were done, and world and disk stand where they led
-pub record PlayedTo {P S W K D : Type 0} (game : Game P S W) (scene : Stage W K D) (script done rest : List Line) (text : List ℕ) : Type 0 where
+pub record PlayedTo {P L S W K D : Type 0} (game : Game P L S W) (scene : Stage W K D) (script done rest : List L) (text : List ℕ) : Type 0 where
   pub front : (PlaysFront game) (before scene.disk) (first_count scene) script done rest text
   pub now : (StandsAt game) front.setup front.goes.state front.goes.files front.goes.counts (before scene.disk) (disk_left scene) scene.world_after
 
 -- how a script that was read ends on its stage, and its text; or how far it came
-abbrev pub PlayEnds : {P S W K D : Type 0} → Game P S W → List Line → Stage W K D → Option Status8 → List ℕ → Type 0
-PlayEnds game lines scene None text = (done rest : List Line) × PlayedTo game scene lines done rest text
-PlayEnds game lines scene (Some Done) text = (done : List Line) × PlayedTo game scene lines done [] text
+abbrev pub PlayEnds : {P L S W K D : Type 0} → Game P L S W → List L → Stage W K D → Option Status8 → List ℕ → Type 0
+PlayEnds {L = L} game lines scene None text = (done rest : List L) × PlayedTo game scene lines done rest text
+PlayEnds {L = L} game lines scene (Some Done) text = (done : List L) × PlayedTo game scene lines done [] text
 PlayEnds game lines scene (Some RootNotEmpty) text = RootHolds scene text
 PlayEnds game lines scene (Some DiskFault) text = DiskFails game lines scene text
 PlayEnds game lines scene _ text = ⊥
 
 -- memory was wanting: before the disk had told that it holds no file, in the deeds of the start, or in an event; what is written
 -- is the text of the events that were done
-pub data PlayLacks {P S W K D : Type 0} (game : Game P S W) (script : List Line) (scene : Stage W K D) (text : List ℕ) : Type 0 where
+pub data PlayLacks {P L S W K D : Type 0} (game : Game P L S W) (script : List L) (scene : Stage W K D) (text : List ℕ) : Type 0 where
   Unopened :
       text ≡ [] → disk_left scene ≡ names_told (disk_held scene) → scene.world_after ≡ scene.world → PlayLacks game script scene text
   Opening :
       text ≡ [] → (opens : Opens game script (before scene.disk)) → LackedDeeds opens.setup (names_told (disk_held scene)) (disk_left scene)
       → scene.world_after ≡ scene.world → PlayLacks game script scene text
   InEvent :
-      (done : List Line) (next : Line) (rest : List Line)
+      (done : List L) (next : L) (rest : List L)
       (front : (PlaysFront game) (before scene.disk) (first_count scene) script done (next ∷ rest) text)
       → (Broken game) front.setup front.goes.state (files_told front.goes.files (before scene.disk)) (after scene.disk) scene.world_after
       → (Lacks game) front.setup front.goes.state ((seen_behind game) front.goes) (disk_left scene) scene.world_after

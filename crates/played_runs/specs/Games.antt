@@ -1,5 +1,5 @@
 -- Words of public clauses: a world that plays the lines of scripts, and what its events are to it.
-use Rattle.std.specs.Prelude.{◌≡◌, ℕ, ◌≤◌, ℤ, Bool, true, false, Option, None, List, [], ◌++◌, Result, Ok, Err}
+use Rattle.std.specs.Prelude.{◌≡◌, ℕ, ◌≤◌, ℤ, Bool, true, false, Option, Some, None, List, [], ◌++◌, Result, Ok, Err}
 use Rattle.ais_values.specs.Causes.{Rose}
 use Rattle.disk_model.specs.Counts.{Counters}
 use Rattle.disk_model.specs.Disk.{Files}
@@ -22,16 +22,21 @@ use Rattle.cluster_rounds.specs.Worlds as clusters
 use Rattle.cluster_rounds.specs.Worlds.{LeavesFiles, TellsFiles}
 use Rattle.played_runs.specs.Views.{FailedDeeds, LackedDeeds, behind_deeds, counters_of, files_alone}
 
--- a world that is W in the code, whose servers keep P beside the world of the definitions and are S in the code
-pub record Game (P S W : Type 0) : Type 1 where
+-- a world that is W in the code and plays the lines L, whose servers keep P beside the world of the definitions and are S in the code
+pub record Game (P L S W : Type 0) : Type 1 where
   pub kit : Kit P S
+  -- the texts that spell a line; the line that all worlds share, where it is one: what is promised of settling, of refusals, of time and of
+  -- files that are shown is asked of such lines alone; and whether a server goes down in a line with no entry in work
+  pub Spells : L → List ℕ → Type 0
+  pub shared : L → Option Line
+  pub crashes : L → Bool
   -- the state at the start of a setup with so many places for callbacks, and the lines that begin one
   pub start : Setup → ℕ → State P
-  pub Begins : Line → Setup → ℕ → Type 0
+  pub Begins : L → Setup → ℕ → Type 0
   -- a line can be played behind the first one, at this time
-  pub Follows : ℤ → Line → Type 0
+  pub Follows : ℤ → L → Type 0
   -- a line was done, over a disk that told these files before the run, with what the disk counted before and after the line
-  pub Step : Setup → Option Files → StepBy Counters P
+  pub Step : Setup → Option Files → StepBy Counters L P
   -- a world before its first line; the time in force in one; and its parts, where its servers keep this
   pub empty : W
   pub now : W → ℤ
@@ -39,15 +44,15 @@ pub record Game (P S W : Type 0) : Type 1 where
   -- how many changing calls are left until the disk stops, where it is armed
   pub armed : P → Option ℕ
   -- a fault of the disk ended the event of a line, which told these lines, and left the disk and the world so; and where it ended
-  pub Ended : Setup → State P → Line → List Told → DiskSeen → DiskSeen → W → Type 0
+  pub Ended : Setup → State P → L → List Told → DiskSeen → DiskSeen → W → Type 0
   pub end :
-      (setup : Setup) (state : State P) (next : Line) (told : List Told) (held left : DiskSeen) (world : W)
+      (setup : Setup) (state : State P) (next : L) (told : List Told) (held left : DiskSeen) (world : W)
       → Ended setup state next told held left world → Outcome (State P)
 
--- lines that show files
-abbrev pub shows_files : Line → Bool
-shows_files line.Files = true
-shows_files (line.Cat name) = true
+-- lines that show files, by what is shared of them
+abbrev pub shows_files : Option Line → Bool
+shows_files (Some line.Files) = true
+shows_files (Some (line.Cat name)) = true
 shows_files _ = false
 
 -- what the start left: its deeds were done, and no other calls were made; memory was wanting in them; or one of their calls failed, and
@@ -63,7 +68,7 @@ RisesInEvent before now (Ok done) = before ≤ now
 RisesInEvent before now (Err Memory) = before ≤ now
 RisesInEvent before now (Err (DiskFault lines)) = (before ≤ now) × Rose before now
 
-module _ {P S W : Type 0} (game : Game P S W) where
+module _ {P L S W : Type 0} (game : Game P L S W) where
   -- the world of the code stands for a state of the definitions
   abbrev pub Shows : Setup → State P → W → Type 0
   Shows setup state world = (clusters.Shows game.kit) setup state (game.parts state.peers world)
@@ -93,7 +98,7 @@ module _ {P S W : Type 0} (game : Game P S W) where
     pub armed : left.tally.armed ≡ None
 
   -- a line was done: the world and the disk stand for the state after it, and the lines are those of the event
-  pub record EventDone (setup : Setup) (state : State P) (next : Line) (lines : List (List ℕ)) (held left : DiskSeen) (world : W) : Type 0 where
+  pub record EventDone (setup : Setup) (state : State P) (next : L) (lines : List (List ℕ)) (held left : DiskSeen) (world : W) : Type 0 where
     pub outcome : Outcome (State P)
     pub done : game.Step setup held.files (counters_of held) next state outcome (counters_of left)
     pub good : IsGood setup outcome.state
@@ -103,7 +108,7 @@ module _ {P S W : Type 0} (game : Game P S W) where
     pub files : LeavesFiles setup outcome.state held.files left.files
 
   -- so it is over each good state that the world and the disk stood for
-  abbrev pub DoesEvent : Line → List (List ℕ) → W → W → DiskSeen → DiskSeen → Type 0
+  abbrev pub DoesEvent : L → List (List ℕ) → W → W → DiskSeen → DiskSeen → Type 0
   DoesEvent next lines old new held left =
       (setup : Setup) (state : State P) → IsGood setup state → Shows setup state old → IsArmedBy state held.tally.armed
       → TellsFiles setup state held.files → EventDone setup state next lines held left new
@@ -127,20 +132,20 @@ module _ {P S W : Type 0} (game : Game P S W) where
 
   -- the disk had a fault that left no server active: over each good state that the world and the disk stood for the event ended there, and
   -- these lines were printed
-  abbrev pub EndsEvent : Line → W → W → List (List ℕ) → List (List ℕ) → DiskSeen → DiskSeen → Type 0
+  abbrev pub EndsEvent : L → W → W → List (List ℕ) → List (List ℕ) → DiskSeen → DiskSeen → Type 0
   EndsEvent next old new before after held left =
       (setup : Setup) (state : State P) → IsGood setup state → Shows setup state old → IsArmedBy state held.tally.armed → (told : List Told)
       × game.Ended setup state next told held left new × (after ≡ before ++ printed told)
 
   -- A line that shows files leaves all as it was where the disk has a fault, which was only read. Any other line ended.
-  abbrev pub FaultLeaves : Line → W → W → List (List ℕ) → List (List ℕ) → DiskSeen → DiskSeen → Type 0
-  FaultLeaves line.Files old new before after held left =
-      (new ≡ old) × (after ≡ before) × IsRead held left
-  FaultLeaves (line.Cat name) old new before after held left =
-      (new ≡ old) × (after ≡ before) × IsRead held left
-  FaultLeaves next old new before after held left = EndsEvent next old new before after held left
+  abbrev pub FaultLeavesBy : Bool → L → W → W → List (List ℕ) → List (List ℕ) → DiskSeen → DiskSeen → Type 0
+  FaultLeavesBy true next old new before after held left = (new ≡ old) × (after ≡ before) × IsRead held left
+  FaultLeavesBy false next old new before after held left = EndsEvent next old new before after held left
+
+  abbrev pub FaultLeaves : L → W → W → List (List ℕ) → List (List ℕ) → DiskSeen → DiskSeen → Type 0
+  FaultLeaves next old new before after held left = FaultLeavesBy (shows_files (game.shared next)) next old new before after held left
 
   -- what a line left that was not done, by the answer
-  abbrev pub EventBroken : EventAnswer → Line → W → W → DiskSeen → DiskSeen → Type 0
+  abbrev pub EventBroken : EventAnswer → L → W → W → DiskSeen → DiskSeen → Type 0
   EventBroken Memory next old new held left = BreaksOn old new held left
   EventBroken (DiskFault lines) next old new held left = FaultLeaves next old new [] lines held left

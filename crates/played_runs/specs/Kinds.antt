@@ -1,15 +1,21 @@
 -- Words of laws: what a line of a kind makes of the time in force, of refusals, and of the calls that agents keep.
-use Rattle.std.specs.Prelude.{◌≡◌, ℕ, ◌<◌, ℤ, List, [], ◌++◌}
+use Rattle.std.specs.Prelude.{◌≡◌, ℕ, ◌<◌, ℤ, List, [], ◌++◌, Option, Some, None}
 use Rattle.std.specs.List.{AllByRecursion}
+use Rattle.script_lines.specs.declared.line.Line.{Line}
 use Rattle.cluster_facts.specs.Types.{Status}
 use Rattle.cluster_facts.specs.Messages.{messages_in, sent_by}
 use Rattle.cluster_facts.specs.Agents.{refusal, dispatch_refusal}
 use Rattle.cluster_facts.specs.World.{World}
 use Rattle.cluster_events.specs.Lines.{Told}
 use Rattle.cluster_events.specs.Saying.{replies_told}
-use Rattle.cluster_events.proofs.Walking.{Kind, Times, Asks, Dispatches}
+use Rattle.cluster_events.proofs.Walking.{Kind, Times, Asks, Dispatches, Others, kind_of}
 use Rattle.cluster_rounds.specs.Timely.{AreTimely, IsTimelyIn}
 use Rattle.played_runs.specs.Refusing.{refusals_told, refused_as, waiting_of}
+
+-- the kind of a line, by what is shared of it: one of a world's own asks its servers for something
+abbrev pub kind_by : Option Line → Kind
+kind_by None = Others
+kind_by (Some next) = kind_of next
 
 -- Time.
 

@@ -3,8 +3,6 @@ use Rattle.std.specs.Prelude.{ℕ, ℤ, List, ◌∷◌, ◌++◌, [], ◌⊎◌
 use Rattle.disk_model.specs.Counts.{Counters}
 use Rattle.disk_model.specs.Disk.{Files}
 use Rattle.disk_model.specs.Seen.{DiskSeen}
-use Rattle.script_lines.specs.declared.line.Line.{Line}
-use Rattle.script_language.specs.Lines.{Spells}
 use Rattle.plain_service.specs.Setups.{Setup}
 use Rattle.played_runs.specs.declared.ending.Status8.TheVariants.{DiskFault as Faulted}
 use Rattle.played_runs.specs.declared.passing.Halt.{Halt}
@@ -19,16 +17,16 @@ RisesPassing disk (Ok done) = HasGoneOn disk
 RisesPassing disk (Err Memory) = HasGoneOn disk
 RisesPassing disk (Err DiskFault) = HasRisen disk
 
-module _ {P S W : Type 0} (game : Game P S W) where
+module _ {P L S W : Type 0} (game : Game P L S W) where
   -- each of these lines can be played behind the first one, whatever time is in force
-  abbrev pub CanPass : List Line → Type 0
+  abbrev pub CanPass : List L → Type 0
   CanPass [] = Unit {0}
-  CanPass (next ∷ lines) = ((raw : List ℕ) × Spells next raw) × ((now : ℤ) → game.Follows now next) × CanPass lines
+  CanPass (next ∷ lines) = ((raw : List ℕ) × game.Spells next raw) × ((now : ℤ) → game.Follows now next) × CanPass lines
 
   -- what stands behind lines that were played from the start of a cluster on; or where the run ended: for want of memory, in one of them or
   -- as one was made, or by a fault of the disk
   abbrev pub PassEnds :
-      (Since : Option Files → Counters → Type 0) → Setup → ℕ → Option Files → Counters → List Line → DiskSeen → W
+      (Since : Option Files → Counters → Type 0) → Setup → ℕ → Option Files → Counters → List L → DiskSeen → W
       → Result Unit Halt → Type 0
   PassEnds Since setup places held first lines left world (Ok done) =
       (text : List ℕ) × (Going game) setup places held first left world lines text
@@ -40,13 +38,13 @@ module _ {P S W : Type 0} (game : Game P S W) where
       (text : List ℕ) × (EventsEnd game) setup places held first left Since world lines (Some Faulted) text
 
   -- so it is behind all lines that led to a world and a disk
-  abbrev pub Passes : (Since : Option Files → Counters → Type 0) → List Line → (mid left : DiskSeen) (old new : W) → Result Unit Halt → Type 0
+  abbrev pub Passes : (Since : Option Files → Counters → Type 0) → List L → (mid left : DiskSeen) (old new : W) → Result Unit Halt → Type 0
   Passes Since lines mid left old new result =
-      (setup : Setup) (places : ℕ) (held : Option Files) (first : Counters) (done : List Line) (text : List ℕ)
+      (setup : Setup) (places : ℕ) (held : Option Files) (first : Counters) (done : List L) (text : List ℕ)
       → (Going game) setup places held first mid old done text → PassEnds Since setup places held first (done ++ lines) left new result
 
   -- some lines led there
   abbrev pub HasGone : DiskSeen → W → Type 0
   HasGone left world =
-      (setup : Setup) × (places : ℕ) × (held : Option Files) × (first : Counters) × (done : List Line) × (text : List ℕ)
+      (setup : Setup) × (places : ℕ) × (held : Option Files) × (first : Counters) × (done : List L) × (text : List ℕ)
       × (Going game) setup places held first left world done text

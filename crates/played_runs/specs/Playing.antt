@@ -4,7 +4,6 @@ use Rattle.std.specs.List.{flat_map}
 use Rattle.disk_model.specs.Counts.{Counters}
 use Rattle.disk_model.specs.Disk.{Files}
 use Rattle.disk_model.specs.Seen.{DiskSeen}
-use Rattle.script_lines.specs.declared.line.Line.{Line}
 use Rattle.plain_service.specs.Setups.{Setup}
 use Rattle.cluster_events.specs.Lines.{Told}
 use Rattle.cluster_events.specs.Servers.{State}
@@ -19,20 +18,20 @@ use Rattle.played_runs.specs.Games.{Game, IsArmedBy, IsGood, Shows}
 abbrev pub text_of : List Told → List ℕ
 text_of told = flat_map (λ line. line) (printed told)
 
-module _ {P S W : Type 0} (game : Game P S W) where
+module _ {P L S W : Type 0} (game : Game P L S W) where
   -- what the lines of a script lead to from the start of a cluster, the last line first: all that their events tell, the last in
   -- front, and the files by the deeds of the start and of each entry whose work is done, with what the disk counts, which goes along
   -- line by line from the first on
-  abbrev pub Ran : Setup → ℕ → Option Files → Counters → List Line → State P → List Told → Files × Counters → Type 0
+  abbrev pub Ran : Setup → ℕ → Option Files → Counters → List L → State P → List Told → Files × Counters → Type 0
   Ran setup places held first lines state told left =
       RunOnBy (game.Step setup held) service_disk (storage_of setup) (game.start setup places) first lines state told left
 
-  abbrev pub Played : Setup → ℕ → Option Files → Counters → List Line → State P → List Told → Files → Counters → Type 0
+  abbrev pub Played : Setup → ℕ → Option Files → Counters → List L → State P → List Told → Files → Counters → Type 0
   Played setup places held first lines state told files counts = Ran setup places held first lines state told (files, counts)
 
   -- these lines were played in order: where they led, the text so far and what the disk counted behind them, whatever became of world and
   -- disk since
-  pub record Goes (setup : Setup) (places : ℕ) (held : Option Files) (first : Counters) (lines : List Line) (text : List ℕ) : Type 0 where
+  pub record Goes (setup : Setup) (places : ℕ) (held : Option Files) (first : Counters) (lines : List L) (text : List ℕ) : Type 0 where
     pub state : State P
     pub told : List Told
     pub files : Files
@@ -44,8 +43,8 @@ module _ {P S W : Type 0} (game : Game P S W) where
 
   -- the first line of a script began a cluster on a disk without files that had counted so much before, and these events of the others were
   -- done
-  pub record PlaysFront (held : Option Files) (first : Counters) (script done rest : List Line) (text : List ℕ) : Type 0 where
-    pub opening : Line
+  pub record PlaysFront (held : Option Files) (first : Counters) (script done rest : List L) (text : List ℕ) : Type 0 where
+    pub opening : L
     pub parts : script ≡ opening ∷ (done ++ rest)
     pub empty : HoldsNone held
     pub setup : Setup
@@ -55,7 +54,7 @@ module _ {P S W : Type 0} (game : Game P S W) where
 
   -- what the disk tells behind these lines
   abbrev pub seen_behind :
-      {setup : Setup} {places : ℕ} {held : Option Files} {first : Counters} {lines : List Line} {text : List ℕ}
+      {setup : Setup} {places : ℕ} {held : Option Files} {first : Counters} {lines : List L} {text : List ℕ}
       → Goes setup places held first lines text → DiskSeen
   seen_behind {held = held} goes = seen_as (files_told goes.files held) goes.counts
 

@@ -51,12 +51,12 @@ refused_by client rows = refused_as client (first_row rows)
 abbrev pub call_refused : ℕ → Ask → (replies : List (ℕ × Reply)) → List (ℕ × Call) → List (ℕ × Status)
 call_refused client asked replies sent = refused_by client (rows_of_refusal asked sent (waiting_of replies sent))
 
--- what is refused of a line, and to which client, by the lines told and the messages of the net before it
-abbrev pub refusals_due : Line → List Told → List Message → List (ℕ × Status)
-refusals_due (line.Log client asked) told messages = call_refused client asked (replies_told client told) (sent_by client messages)
-refusals_due (line.Ntf client asked) told messages = call_refused client asked (replies_told client told) (sent_by client messages)
-refusals_due (line.DispatchOne client) told messages = refused_by client (rows_of_dispatch (sent_by client messages))
-refusals_due (line.DispatchAll client workers) told messages = refused_by client (rows_of_dispatch (sent_by client messages))
+-- what is refused of a line, and to which client, by what is shared of it, and by the lines told and the messages of the net before it
+abbrev pub refusals_due : Option Line → List Told → List Message → List (ℕ × Status)
+refusals_due (Some (line.Log client asked)) told messages = call_refused client asked (replies_told client told) (sent_by client messages)
+refusals_due (Some (line.Ntf client asked)) told messages = call_refused client asked (replies_told client told) (sent_by client messages)
+refusals_due (Some (line.DispatchOne client)) told messages = refused_by client (rows_of_dispatch (sent_by client messages))
+refusals_due (Some (line.DispatchAll client workers)) told messages = refused_by client (rows_of_dispatch (sent_by client messages))
 refusals_due _ told messages = []
 
 -- the refusals among lines that are told
@@ -68,5 +68,6 @@ abbrev pub refusals_told : List Told → List (ℕ × Status)
 refusals_told told = gathered refusal_in told
 
 -- a line tells a refusal exactly where one is due
-abbrev pub DeclinesRightly : {P : Type 0} → LineSentence P
-DeclinesRightly before next told state outcome after = refusals_told outcome.told ≡ refusals_due next told (messages_in state.world.net)
+abbrev pub DeclinesRightly : {L P : Type 0} → (shared : L → Option Line) → LineSentence L P
+DeclinesRightly shared before next told state outcome after =
+    refusals_told outcome.told ≡ refusals_due (shared next) told (messages_in state.world.net)

@@ -3,7 +3,6 @@ use Rattle.std.specs.Prelude.{ℕ, List, ◌∷◌, Option}
 use Rattle.disk_model.specs.Counts.{Counters}
 use Rattle.disk_model.specs.Disk.{Files}
 use Rattle.disk_model.specs.Seen.{DiskSeen}
-use Rattle.script_lines.specs.declared.line.Line.{Line}
 use Rattle.plain_service.specs.Setups.{Setup}
 use Rattle.cluster_facts.specs.Types.{Callback}
 use Rattle.cluster_facts.specs.Messages.{receipts_of, messages_in}
@@ -27,10 +26,10 @@ abbrev pub TellsEach : Setup → World → Type 0
 TellsEach setup world =
     (client key : ℕ) → TellSends setup world.core.answered client key (callbacks_got world client key)
 
-abbrev pub TellsOnce : Setup → Sentence
+abbrev pub TellsOnce : {L : Type 0} → Setup → Sentence L
 TellsOnce setup lines world told files = TellsEach setup world
 
-module _ {P S W : Type 0} (game : Game P S W) where
+module _ {P L S W : Type 0} (game : Game P L S W) where
   -- the same where an event broke off, by the marks of the items that clients were fed
   abbrev pub TellsBroken :
       (setup : Setup) (state : State P) (held left : Option Files) (world : W) → (Broken game) setup state held left world → Type 0
@@ -42,6 +41,6 @@ module _ {P S W : Type 0} (game : Game P S W) where
   -- next line left the world and the disk as they are now
   abbrev pub TellsAtWant : (held : Option Files) (left : DiskSeen) (world : W) → Type 0
   TellsAtWant held left world =
-      (first : Counters) (script done rest : List Line) (next : Line) (text : List ℕ) (front : (PlaysFront game) held first script done (next ∷ rest) text)
+      (first : Counters) (script done rest : List L) (next : L) (text : List ℕ) (front : (PlaysFront game) held first script done (next ∷ rest) text)
       (broken : (Broken game) front.setup front.goes.state (files_told front.goes.files held) left.files world)
       → TellsBroken front.setup front.goes.state (files_told front.goes.files held) left.files world broken

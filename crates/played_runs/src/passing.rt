@@ -8,7 +8,6 @@ use crate::playable::Playable;
 use ais_values::Seq;
 use cluster_clients::EventAnswer;
 use disk_model::SharedDisk;
-use script_lines::Line;
 use std::mem;
 
 /// Why a run of lines of which nothing is written was not brought to its end.
@@ -21,15 +20,15 @@ pub enum Halt {
 }
 
 /// Begins a world by its first line, which is let go.
-pub fn begin_by<W, D: SharedDisk, B>(
-    opening: Line,
+pub fn begin_by<L: Drop, W, D: SharedDisk, B>(
+    opening: L,
     disk: &mut D,
     world: &mut W,
     begin: &B,
 ) -> Result<(), EventAnswer>
 where
-    W: Playable,
-    B: Fn(&Line, &mut D, &mut W) -> Result<(), EventAnswer>,
+    W: Playable<L>,
+    B: Fn(&L, &mut D, &mut W) -> Result<(), EventAnswer>,
     requires can { CanOpen W.game D.seen opening disk.old world.old }
     requires begin { BeginsBy W.game D.seen B.Fn begin.now }
     ensures { Opened W.game D.seen opening disk.old disk.new world.old world.new result }
@@ -40,15 +39,15 @@ where
 }
 
 // Plays a line, and lets go what it prints.
-fn pass_line<W, D: SharedDisk, E>(
-    line: &Line,
+fn pass_line<L, W, D: SharedDisk, E>(
+    line: &L,
     disk: &mut D,
     world: &mut W,
     event: &E,
 ) -> Result<(), Halt>
 where
-    W: Playable,
-    E: Fn(&Line, &mut D, &mut W) -> Result<Seq<Seq<u8>>, EventAnswer>,
+    W: Playable<L>,
+    E: Fn(&L, &mut D, &mut W) -> Result<Seq<Seq<u8>>, EventAnswer>,
     requires can { CanDo W.game D.seen line.now disk.old world.old }
     requires event { DoesLines W.game D.seen E.Fn event.now }
     ensures passes { Passes W.game (StoodUpTo D.seen) (line.now ∷ [])
@@ -69,15 +68,15 @@ where
 }
 
 // Plays lines one after another, which stay.
-fn pass_all<W, D: SharedDisk, E>(
-    lines: &[Line],
+fn pass_all<L, W, D: SharedDisk, E>(
+    lines: &[L],
     disk: &mut D,
     world: &mut W,
     event: &E,
 ) -> Result<(), Halt>
 where
-    W: Playable,
-    E: Fn(&Line, &mut D, &mut W) -> Result<Seq<Seq<u8>>, EventAnswer>,
+    W: Playable<L>,
+    E: Fn(&L, &mut D, &mut W) -> Result<Seq<Seq<u8>>, EventAnswer>,
     requires gone { HasGone W.game (D.seen disk.old) world.old }
     requires can { CanPass W.game lines.now }
     requires event { DoesLines W.game D.seen E.Fn event.now }
@@ -99,15 +98,15 @@ where
 ///
 /// `DiskFault` comes only where the disk's count of faults rose in a line behind which no server is active, or that shows files. `Memory`
 /// comes where memory ran out in a line. Behind either no further line is played.
-pub fn pass_lines<W, D: SharedDisk, E>(
-    lines: Seq<Line>,
+pub fn pass_lines<L: Drop, W, D: SharedDisk, E>(
+    lines: Seq<L>,
     disk: &mut D,
     world: &mut W,
     event: &E,
 ) -> Result<(), Halt>
 where
-    W: Playable,
-    E: Fn(&Line, &mut D, &mut W) -> Result<Seq<Seq<u8>>, EventAnswer>,
+    W: Playable<L>,
+    E: Fn(&L, &mut D, &mut W) -> Result<Seq<Seq<u8>>, EventAnswer>,
     requires gone { HasGone W.game (D.seen disk.old) world.old }
     requires can { CanPass W.game lines }
     requires event { DoesLines W.game D.seen E.Fn event.now }

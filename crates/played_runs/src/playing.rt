@@ -19,21 +19,20 @@ use ais_values::{Duplicate, Seq, Text};
 use cluster_clients::EventAnswer;
 use disk_model::{DiskAnswer, SharedDisk};
 use io_edge::Sink;
-use script_lines::Line;
 use std::alloc::Global;
 use std::mem;
 
 // Plays a line: its event, and the writing of its lines. `Err` has the status that the run ends with.
-fn play_line<W, K: Sink, D: SharedDisk, E>(
-    line: &Line,
+fn play_line<L, W, K: Sink, D: SharedDisk, E>(
+    line: &L,
     out: &mut K,
     disk: &mut D,
     world: &mut W,
     event: &E,
 ) -> Result<(), Status8>
 where
-    W: Playable,
-    E: Fn(&Line, &mut D, &mut W) -> Result<Seq<Seq<u8>>, EventAnswer>,
+    W: Playable<L>,
+    E: Fn(&L, &mut D, &mut W) -> Result<Seq<Seq<u8>>, EventAnswer>,
     requires can { CanDo W.game D.seen line.now disk.old world.old }
     requires event { DoesLines W.game D.seen E.Fn event.now }
     ensures { PlaysLine W.game line.now (D.seen disk.old) (D.seen disk.new) world.old world.new
@@ -50,16 +49,16 @@ where
 }
 
 // Plays the lines behind the opening.
-fn play_events<W, K: Sink, D: SharedDisk, E>(
-    events: &[Line],
+fn play_events<L, W, K: Sink, D: SharedDisk, E>(
+    events: &[L],
     out: &mut K,
     disk: &mut D,
     world: &mut W,
     event: &E,
 ) -> Status8
 where
-    W: Playable,
-    E: Fn(&Line, &mut D, &mut W) -> Result<Seq<Seq<u8>>, EventAnswer>,
+    W: Playable<L>,
+    E: Fn(&L, &mut D, &mut W) -> Result<Seq<Seq<u8>>, EventAnswer>,
     requires begun { HasBegun W.game (D.seen disk.old) world.old }
     requires follows { CanFollow W.game (W.game.now world.old) events.now }
     requires event { DoesLines W.game D.seen E.Fn event.now }
@@ -82,9 +81,9 @@ where
 }
 
 // Begins the cluster, and plays the lines behind its line. The stage is that of the disk before its names were asked for.
-fn open<W, K: Sink, D: SharedDisk, B, E>(
-    opening: &Line,
-    events: &[Line],
+fn open<L, W, K: Sink, D: SharedDisk, B, E>(
+    opening: &L,
+    events: &[L],
     out: &mut K,
     disk: &mut D,
     world: &mut W,
@@ -92,9 +91,9 @@ fn open<W, K: Sink, D: SharedDisk, B, E>(
     event: &E,
 ) -> Status8
 where
-    W: Playable,
-    B: Fn(&Line, &mut D, &mut W) -> Result<(), EventAnswer>,
-    E: Fn(&Line, &mut D, &mut W) -> Result<Seq<Seq<u8>>, EventAnswer>,
+    W: Playable<L>,
+    B: Fn(&L, &mut D, &mut W) -> Result<(), EventAnswer>,
+    E: Fn(&L, &mut D, &mut W) -> Result<Seq<Seq<u8>>, EventAnswer>,
     requires script { CanPlay W.game opening.now events.now }
     requires empty { world.old ≡ W.game.empty }
     requires bare { HoldsNone (D.seen disk.old).files }
@@ -148,9 +147,9 @@ pub fn write_held<K: Sink>(alloc: Global, out: &mut K, name: &[u8]) -> Status8
 }
 
 // Plays the lines of a script, which stay.
-fn play_all<W, K: Sink, D: SharedDisk, B, E>(
+fn play_all<L, W, K: Sink, D: SharedDisk, B, E>(
     alloc: Global,
-    lines: &[Line],
+    lines: &[L],
     out: &mut K,
     disk: &mut D,
     world: &mut W,
@@ -158,9 +157,9 @@ fn play_all<W, K: Sink, D: SharedDisk, B, E>(
     event: &E,
 ) -> Status8
 where
-    W: Playable,
-    B: Fn(&Line, &mut D, &mut W) -> Result<(), EventAnswer>,
-    E: Fn(&Line, &mut D, &mut W) -> Result<Seq<Seq<u8>>, EventAnswer>,
+    W: Playable<L>,
+    B: Fn(&L, &mut D, &mut W) -> Result<(), EventAnswer>,
+    E: Fn(&L, &mut D, &mut W) -> Result<Seq<Seq<u8>>, EventAnswer>,
     requires script { IsPlayable W.game lines.now }
     requires empty { world.old ≡ W.game.empty }
     requires unarmed { (D.seen disk.old).tally.armed ≡ None }
@@ -189,9 +188,9 @@ where
 /// `DiskFault` comes only where the disk's count of faults rose: as its names were asked for, in the deeds of the start, as a
 /// line showed files, or where no other server was in service. A fault in the work of a server whose standby takes over ends
 /// no run; its rise is told by a line `server S down`.
-pub fn play<W, K: Sink, D: SharedDisk, B, E>(
+pub fn play<L: Drop, W, K: Sink, D: SharedDisk, B, E>(
     alloc: Global,
-    lines: Seq<Line>,
+    lines: Seq<L>,
     out: &mut K,
     disk: &mut D,
     world: &mut W,
@@ -199,9 +198,9 @@ pub fn play<W, K: Sink, D: SharedDisk, B, E>(
     event: &E,
 ) -> Status8
 where
-    W: Playable,
-    B: Fn(&Line, &mut D, &mut W) -> Result<(), EventAnswer>,
-    E: Fn(&Line, &mut D, &mut W) -> Result<Seq<Seq<u8>>, EventAnswer>,
+    W: Playable<L>,
+    B: Fn(&L, &mut D, &mut W) -> Result<(), EventAnswer>,
+    E: Fn(&L, &mut D, &mut W) -> Result<Seq<Seq<u8>>, EventAnswer>,
     requires script { IsPlayable W.game lines }
     requires empty { world.old ≡ W.game.empty }
     requires unarmed { (D.seen disk.old).tally.armed ≡ None }

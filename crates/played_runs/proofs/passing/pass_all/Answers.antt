@@ -1,5 +1,4 @@
 use Rattle.std.proofs.Common.{◌+◌, Ok, Err, List, [], ◌∷◌, ◌++◌, take, drop, sym, subst, arith}
-use Rattle.script_lines.specs.declared.line.Line.{Line}
 use Rattle.played_runs.specs.Ends.{StoodUpTo}
 use Rattle.played_runs.specs.Passing.{Passes}
 use Rattle.played_runs.proofs.CountSteps.{on-same, on-behind}
@@ -26,7 +25,7 @@ returns-in-Err-clause-passes g c =
     let Since = StoodUpTo g.D.SharedDisk.seen in
     let halt = c.in-Err.halt in
     let both = passes-then g.W.Playable.game g.W.Playable.plays Since (take place lines) (line ∷ []) start mid left c.args.world.now c.loop-line.world c.pass_line.new.world tt (Err halt) c.loop-line.invariant.passes c.in-Err.ensures.passes in
-    subst (λ (all : List Line). (Passes g.W.Playable.game) Since all start left c.args.world.now c.pass_line.new.world (Err halt)) (line-parts lines place line c.loop-line-test.true c.line-item.is) (passes-halted g.W.Playable.game g.W.Playable.plays Since (take place lines ++ line ∷ []) (drop (place + 1) lines) start left c.args.world.now c.pass_line.new.world halt both)
+    subst (λ (all : List g.row.L.Denot). (Passes g.W.Playable.game) Since all start left c.args.world.now c.pass_line.new.world (Err halt)) (line-parts lines place line c.loop-line-test.true c.line-item.is) (passes-halted g.W.Playable.game g.W.Playable.plays Since (take place lines ++ line ∷ []) (drop (place + 1) lines) start left c.args.world.now c.pass_line.new.world halt both)
 
 pub loop-line-preserved : goal.loop-line-preserved
 loop-line-preserved g c =
@@ -40,7 +39,7 @@ loop-line-preserved g c =
     let both = passes-then g.W.Playable.game g.W.Playable.plays Since (take place lines) (line ∷ []) start mid left c.args.world.now c.loop-line.world c.pass_line.new.world tt (Ok tt) c.loop-line.invariant.passes c.in-Ok.ensures.passes in
     record {
       can = (line-can g.W.Playable.game g.W.Playable.plays lines place line c.loop-line-test.true c.line-item.is c.loop-line.invariant.can).2;
-      passes = subst (λ (all : List Line). (Passes g.W.Playable.game) Since all start left c.args.world.now c.pass_line.new.world (Ok tt)) (sym (line-taken lines place line c.loop-line-test.true c.line-item.is)) both;
+      passes = subst (λ (all : List g.row.L.Denot). (Passes g.W.Playable.game) Since all start left c.args.world.now c.pass_line.new.world (Ok tt)) (sym (line-taken lines place line c.loop-line-test.true c.line-item.is)) both;
       disk = on-behind (g.D.SharedDisk.seen c.args.disk.now).faults (g.D.SharedDisk.seen c.loop-line.disk).faults (g.D.SharedDisk.seen c.pass_line.new.disk).faults c.loop-line.invariant.disk c.in-Ok.ensures.counts;
     }
 
@@ -50,7 +49,7 @@ returns-clause-passes g c =
     let start = g.D.SharedDisk.seen c.args.disk.now in
     let left = g.D.SharedDisk.seen c.loop-line.disk in
     let Since = StoodUpTo g.D.SharedDisk.seen in
-    subst (λ (all : List Line). (Passes g.W.Playable.game) Since all start left c.args.world.now c.loop-line.world (Ok tt)) (take-all lines c.loop-line.line-index (omega arith)) c.loop-line.invariant.passes
+    subst (λ (all : List g.row.L.Denot). (Passes g.W.Playable.game) Since all start left c.args.world.now c.loop-line.world (Ok tt)) (take-all lines c.loop-line.line-index (omega arith)) c.loop-line.invariant.passes
 
 pub pass_line-requires-clause-can : goal.pass_line-requires-clause-can
 pass_line-requires-clause-can g c =

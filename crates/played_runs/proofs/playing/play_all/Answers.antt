@@ -3,7 +3,6 @@ use Rattle.std.specs.Prelude.{codes, IfSome}
 use Rattle.std.specs.FinMap.{keys}
 use Rattle.disk_model.specs.declared.answers.DiskAnswer.TheVariants as answer
 use Rattle.disk_model.specs.declared.tally.Tally.{Tally}
-use Rattle.script_lines.specs.declared.line.Line.{Line}
 use Rattle.played_runs.specs.declared.ending.Status8.TheVariants.{DiskFault, RootNotEmpty}
 use Rattle.played_runs.specs.Counts.{HasRisen}
 use Rattle.played_runs.specs.Edges.{edge, fault_count, stage}
@@ -36,7 +35,7 @@ returns-in-Some g c =
     let scene = stage sink g.D.SharedDisk.seen c.args.disk.now c.open.new.disk c.args.world.now c.open.new.world in
     let found = c.in-Ok-None.ensures in
     let named = names-told (g.D.SharedDisk.seen c.args.disk.now) (g.D.SharedDisk.seen c.first_name.new.disk) found.same found.counted found.cause.stands found.stops_stay in
-    subst (λ (lines : List Line). Ended unasked (fault_count scene.disk) (PlayEnds g.W.Playable.game lines scene) (PlayLacks g.W.Playable.game lines scene) sink c.open.result) (sym c.in-Some.ensures.cases.0)
+    subst (λ (lines : List g.row.L.Denot). Ended unasked (fault_count scene.disk) (PlayEnds g.W.Playable.game lines scene) (PlayLacks g.W.Playable.game lines scene) sink c.open.result) (sym c.in-Some.ensures.cases.0)
     (c.open.ensures c.args.disk.now named)
 
 pub returns-in-Err-Memory : goal.returns-in-Err-Memory

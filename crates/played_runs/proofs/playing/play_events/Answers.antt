@@ -1,6 +1,5 @@
 use Rattle.std.proofs.Common.{ℕ, ◌+◌, ◌≤◌, List, drop, refl, ◌∙◌, subst, arith}
 use Rattle.std.proofs.Math.ListN.{drop_of_length-le}
-use Rattle.script_lines.specs.declared.line.Line.{Line}
 use Rattle.played_runs.specs.Edges.{edge}
 use Rattle.played_runs.specs.Ends.{StoodUpTo}
 use Rattle.played_runs.specs.Steps.{Behind, CanFollow}
@@ -30,7 +29,7 @@ returns-in-Err g c setup places held begun =
     let left = g.D.SharedDisk.seen c.play_line.new.disk in
     let first = counters_of (g.D.SharedDisk.seen c.args.disk.now) in
     let at = from-place events c.loop-line.line-index line c.loop-line-test.true c.line-item.is in
-    let behind = subst (λ (rest : List Line). (Behind g.W.Playable.game) setup places held first mid c.loop-line.world (edge written sink c.args.out.now c.loop-line.out) events rest) at (c.loop-line.invariant.behind setup places held begun) in
+    let behind = subst (λ (rest : List g.row.L.Denot). (Behind g.W.Playable.game) setup places held first mid c.loop-line.world (edge written sink c.args.out.now c.loop-line.out) events rest) at (c.loop-line.invariant.behind setup places held begun) in
     behind-ends g.W.Playable.game g.W.Playable.plays setup places held first written sink c.args.out.now c.loop-line.out c.play_line.new.out mid left first.faults mid.faults left.faults (StoodUpTo g.D.SharedDisk.seen) c.loop-line.world c.play_line.new.world events line others c.in-Err.status behind c.loop-line.invariant.sink c.loop-line.invariant.disk
     (record { mid = c.loop-line.disk; told = refl; count = refl })
     (c.in-Err.ensures setup behind.going.state behind.going.good behind.going.shows behind.going.armed (going-tells g.W.Playable.game g.W.Playable.plays setup places held first mid c.loop-line.world behind.done behind.text behind.going))
@@ -48,14 +47,14 @@ loop-line-preserved g c =
     let left = g.D.SharedDisk.seen c.play_line.new.disk in
     let first = counters_of (g.D.SharedDisk.seen c.args.disk.now) in
     let at = from-place events c.loop-line.line-index line c.loop-line-test.true c.line-item.is in
-    let follows = subst (λ (rest : List Line). (CanFollow g.W.Playable.game) (g.W.Playable.game.now old) rest) at c.loop-line.invariant.follows in
+    let follows = subst (λ (rest : List g.row.L.Denot). (CanFollow g.W.Playable.game) (g.W.Playable.game.now old) rest) at c.loop-line.invariant.follows in
     let begun = c.requires.begun in
     let one = c.loop-line.invariant.behind begun.0 begun.1 begun.2 begun.3 in
     let one_done = c.in-Ok.ensures begun.0 one.going.state one.going.good one.going.shows one.going.armed (going-tells g.W.Playable.game g.W.Playable.plays begun.0 begun.1 begun.2 first mid old one.done one.text one.going) in
     record {
       follows = follow-next g.W.Playable.game g.W.Playable.plays begun.0 one.going.state mid left old new line others one_done.1.0 one.going.good one.going.shows one_done.1.2 follows.2;
       behind = λ setup places held starts.
-          let behind = subst (λ (rest : List Line). (Behind g.W.Playable.game) setup places held first mid old (edge written sink c.args.out.now c.loop-line.out) events rest) at (c.loop-line.invariant.behind setup places held starts) in
+          let behind = subst (λ (rest : List g.row.L.Denot). (Behind g.W.Playable.game) setup places held first mid old (edge written sink c.args.out.now c.loop-line.out) events rest) at (c.loop-line.invariant.behind setup places held starts) in
           let done = c.in-Ok.ensures setup behind.going.state behind.going.good behind.going.shows behind.going.armed (going-tells g.W.Playable.game g.W.Playable.plays setup places held first mid old behind.done behind.text behind.going) in
           behind-next g.W.Playable.game g.W.Playable.plays setup places held first written sink c.args.out.now c.loop-line.out c.play_line.new.out mid left old new events line others done.0 done.1.0 behind done.1.1 done.1.2 done.4;
       sink = one_done.3 ∙ c.loop-line.invariant.sink;
@@ -78,7 +77,7 @@ play_line-requires-clause-can g c =
     let one = c.loop-line.invariant.behind begun.0 begun.1 begun.2 begun.3 in
     let disk = c.loop-line.disk in
     let at = from-place c.args.events.now c.loop-line.line-index c.line-item.result c.loop-line-test.true c.line-item.is in
-    let follows = subst (λ (rest : List Line). (CanFollow game) (game.now c.loop-line.world) rest) at c.loop-line.invariant.follows in
+    let follows = subst (λ (rest : List g.row.L.Denot). (CanFollow game) (game.now c.loop-line.world) rest) at c.loop-line.invariant.follows in
     record {
       spelled = follows.0;
       follows = follows.1;
