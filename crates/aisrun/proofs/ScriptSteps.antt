@@ -24,7 +24,7 @@ event-line now (line.Cluster start queue callbacks alarm ntf sys) placed = absur
 event-line now (line.Time later) placed = not-below now later (int_lt later now) refl placed
 event-line now _ placed = tt
 
-time-behind : (now : ℤ) (one : Line) → misplaced (Some now) one ≡ None → time_after (Some now) one ≡ Some (time_behind now one)
+time-behind : (now : ℤ) (one : Line) → misplaced (Some now) one ≡ None → time_after (Some now) one ≡ Some (time_behind now (Some one))
 time-behind now (line.Cluster start queue callbacks alarm ntf sys) placed = absurd cc
 time-behind now (line.Time later) placed = refl
 time-behind now _ placed = refl
@@ -35,7 +35,7 @@ can-follow now (skipped skips rest) ordered = can-follow now rest ordered
 can-follow now (spelled {one = one} {raw = raw} {lines = lines} spells rest) ordered =
     let O : Option ℤ → Type 0 = λ time. AreInOrder time lines in
     let others = subst O (time-behind now one ordered.0) ordered.1 in
-    ((raw, spells), event-line now one ordered.0, can-follow (time_behind now one) rest others)
+    ((raw, spells), event-line now one ordered.0, can-follow (time_behind now (Some one)) rest others)
 
 -- the first line that is spelled
 pub record SpelledFirst (one : Line) (lines : List Line) : Type 0 where

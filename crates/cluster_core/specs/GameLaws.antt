@@ -1,6 +1,6 @@
 -- What is asked of a world that plays the lines of scripts holds of that of two servers.
 use Rattle.std.specs.Prelude.{◌≡◌, Option, Some, None, IfSome, List, [], ◌∷◌, option_map}
-use Rattle.std.proofs.Common.{refl, subst}
+use Rattle.std.proofs.Common.{refl, ap, subst}
 use Rattle.disk_model.specs.Counts.{Counters}
 use Rattle.disk_model.specs.Disk.{Files}
 use Rattle.disk_model.specs.Seen.{DiskSeen}
@@ -88,16 +88,29 @@ end-facts setup state next told held left world ended steady =
       lacks = λ calm. line-lacks plain (is_plain setup) device next state ended.end steady calm ended.ends;
     }
 
-settled :
+settle-settled :
     (setup : Setup) (held : Option Files) (before : Counters) (state : State Peers) (outcome : Outcome (State Peers)) (after : Counters)
     → IsSteady (plain_of setup) IsGroup state → LineDone setup held before line.Settle state outcome after
     → IsSettled (plain_of setup) outcome.state.world
-settled setup held before state outcome after steady done =
+settle-settled setup held before state outcome after steady done =
     let plain = plain_of setup in
     let device = device_in done in
     let happens = done.step.happens in
     settle-settles plain (is_plain setup) (group plain device) IsGroup (group-serves plain device (is_plain setup)) (group-spends plain device (is_plain setup))
     state outcome.state happens.lines steady happens.rounds
+
+-- the line that is shared
+abbrev line_in : Option Line → Line
+line_in None = line.Settle
+line_in (Some next) = next
+
+settled :
+    (setup : Setup) (held : Option Files) (before : Counters) (next : Line) (state : State Peers) (outcome : Outcome (State Peers)) (after : Counters)
+    → Some next ≡ Some line.Settle → IsSteady (plain_of setup) IsGroup state → LineDone setup held before next state outcome after
+    → IsSettled (plain_of setup) outcome.state.world
+settled setup held before next state outcome after is steady done =
+    settle-settled setup held before state outcome after steady
+    (subst (λ (one : Line). LineDone setup held before one state outcome after) (ap line_in is) done)
 
 pub world_plays : IsGame world_game
 world_plays = record {

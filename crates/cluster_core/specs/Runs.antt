@@ -17,20 +17,27 @@ use Rattle.played_runs.specs.Passing as passing
 use Rattle.played_runs.specs.Playing as playing
 use Rattle.played_runs.specs.Promises as promises
 use Rattle.played_runs.specs.Promises.{LineSentence, Sentence}
+use Rattle.played_runs.specs.Refusing as refusing
 use Rattle.played_runs.specs.Steps as steps
 use Rattle.played_runs.specs.Telling as telling
 use Rattle.played_runs.specs.Writing.{Reaching}
 
 -- Clauses.
 
-abbrev pub Throughout : (held : Option Files) (Q : Setup → Sentence) → Type 0
+abbrev pub Throughout : (held : Option Files) (Q : Setup → Sentence Line) → Type 0
 Throughout held Q = (promises.Throughout world_game) held Q
 
-abbrev pub OfAllLinesOf : (held : Option Files) (Q : Setup → LineSentence Peers) → Type 0
+abbrev pub OfAllLinesOf : (held : Option Files) (Q : Setup → LineSentence Line Peers) → Type 0
 OfAllLinesOf held Q = (promises.OfAllLinesOf world_game) held Q
 
-abbrev pub OfAllLines : (held : Option Files) (Q : LineSentence Peers) → Type 0
+abbrev pub OfAllLines : (held : Option Files) (Q : LineSentence Line Peers) → Type 0
 OfAllLines held Q = (promises.OfAllLines world_game) held Q
+
+abbrev pub SettlesAll : Setup → Sentence Line
+SettlesAll setup lines world told files = promises.SettlesAll world_game.shared setup lines world told files
+
+abbrev pub DeclinesRightly : LineSentence Line Peers
+DeclinesRightly before next told state outcome after = refusing.DeclinesRightly world_game.shared before next told state outcome after
 
 abbrev pub KeepsAtFault : (held : Option Files) (left : DiskSeen) (world : World) → Type 0
 KeepsAtFault held left world = (faults.KeepsAtFault world_game) held left world

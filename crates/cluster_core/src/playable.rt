@@ -6,8 +6,9 @@ ghost use Rattle.cluster_core.specs.GameLaws.{world_plays};
 
 use crate::World;
 use played_runs::Playable;
+use script_lines::Line;
 
-impl Playable for World {
+impl Playable<Line> for World {
     ghost Peers = { Peers };
 
     ghost Servers = { Group 2 };

@@ -24,13 +24,13 @@ CrashesOne (line.Crash server) old new = (new ≡ old) ⊎ HasFallen server new
 CrashesOne _ old new = Unit {0}
 
 -- a server goes down only by its own `crash`, where the count that was armed came to its end, or where the disk's count of faults rose
-abbrev pub FallsByCause : LineSentence Peers
+abbrev pub FallsByCause : LineSentence Line Peers
 FallsByCause before next told state outcome after =
     (is_crash next ≡ false → IsShort next state.peers.armed outcome.state.peers.armed → ¬ Rose before.faults after.faults
     → StayUp state.peers outcome.state.peers)
     × CrashesOne next state.peers outcome.state.peers
 
 -- and where the count rose in a line that was done, it is one that works entries, and tells that a server is down
-abbrev pub FaultsFell : LineSentence Peers
+abbrev pub FaultsFell : LineSentence Line Peers
 FaultsFell before next told state outcome after =
     (before.faults ≤ after.faults) × FellIn 1 next before.faults after.faults outcome.told

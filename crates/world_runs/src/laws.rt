@@ -3,11 +3,10 @@ ghost use Rattle.std.specs.Prelude.{Option};
 ghost use Rattle.disk_model.specs.Disk.{Files};
 ghost use Rattle.disk_model.specs.Seen.{DiskSeen};
 ghost use Rattle.played_runs.specs.Promises.{CallsBack, CommitsInTime, KeepsFiles, KeepsOneHistory, KeepsRecords};
-ghost use Rattle.played_runs.specs.Promises.{PrintsPosts, ReadsRightly, RepliesRightly, SettlesAll, StandsOnce};
-ghost use Rattle.played_runs.specs.Refusing.{DeclinesRightly};
+ghost use Rattle.played_runs.specs.Promises.{PrintsPosts, ReadsRightly, RepliesRightly, StandsOnce};
 ghost use Rattle.played_runs.specs.Telling.{TellsOnce};
 ghost use Rattle.cluster_core.specs.declared.world.World.{World};
-ghost use Rattle.cluster_core.specs.Runs.{KeepsAtFault, OfAllLines, OfAllLinesOf, TellsAtWant, Throughout};
+ghost use Rattle.cluster_core.specs.Runs.{DeclinesRightly, KeepsAtFault, OfAllLines, OfAllLinesOf, SettlesAll, TellsAtWant, Throughout};
 ghost use Rattle.world_runs.specs.Counting.{CallsCounted};
 ghost use Rattle.world_runs.specs.Falling.{FallsByCause, FaultsFell};
 
