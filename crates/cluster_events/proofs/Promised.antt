@@ -55,7 +55,7 @@ declined-silent : (client : ℕ) (status : Status) → IsSilent (Declined client
 declined-silent client status = record { post = refl; entry = refl; reply = λ c. refl; callback = λ c. refl; called = λ c m. refl; mark = λ c m. refl; deal = λ c. refl }
 
 show-silent : (line : Told) → IsShow line → IsSilent line
-show-silent (Refused refused standing) shows = record { post = refl; entry = refl; reply = λ c. refl; callback = λ c. refl; called = λ c m. refl; mark = λ c m. refl; deal = λ c. refl }
+show-silent (Refused text standing) shows = record { post = refl; entry = refl; reply = λ c. refl; callback = λ c. refl; called = λ c m. refl; mark = λ c m. refl; deal = λ c. refl }
 show-silent (Stood server role) shows = record { post = refl; entry = refl; reply = λ c. refl; callback = λ c. refl; called = λ c m. refl; mark = λ c m. refl; deal = λ c. refl }
 show-silent (Listed name count) shows = record { post = refl; entry = refl; reply = λ c. refl; callback = λ c. refl; called = λ c m. refl; mark = λ c m. refl; deal = λ c. refl }
 show-silent (Shown text) shows = record { post = refl; entry = refl; reply = λ c. refl; callback = λ c. refl; called = λ c m. refl; mark = λ c m. refl; deal = λ c. refl }

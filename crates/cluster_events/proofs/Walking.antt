@@ -4,6 +4,7 @@ use Rattle.std.proofs.Common.{◌≡◌, ℕ, suc, Bool, false, if◌then◌else
 use Rattle.std.specs.List.{AllByRecursion}
 use Rattle.script_lines.specs.declared.line.Line.{Line}
 use Rattle.script_lines.specs.declared.line.Line.TheVariants as line
+use Rattle.script_language.specs.Printing.{line_text}
 use Rattle.cluster_facts.specs.Types.{Ask, Call, Status, Callback, Request, WireWhy}
 use Rattle.cluster_facts.specs.Lists.{without}
 use Rattle.cluster_facts.specs.Messages.{Posting, Spelled, Raw}
@@ -45,7 +46,7 @@ kind_of _ = Others
 
 -- a line that shows what stands, or that an event is refused
 abbrev pub IsShow : Told → Type 0
-IsShow (Refused refused standing) = Unit {0}
+IsShow (Refused text standing) = Unit {0}
 IsShow (Stood server role) = Unit {0}
 IsShow (Listed name count) = Unit {0}
 IsShow (Shown text) = Unit {0}
@@ -121,7 +122,7 @@ module _ {P : Type 0} (plain : Plain) (is_plain : IsPlain plain) (shelf : Shelf)
   showing-walks state told steady shows = (steady, shows-walk state.world told shows)
 
   refuse-walks : (state : State P) (line : Line) → IsSteady plain Good state → Walks Others state (refuse servers line state)
-  refuse-walks state line steady = showing-walks state (Refused line (servers.standing state) ∷ []) steady (tt, tt)
+  refuse-walks state line steady = showing-walks state (Refused (line_text line) (servers.standing state) ∷ []) steady (tt, tt)
 
   step-walks : (line : Line) (step : State P → Option (Outcome (State P))) → IsStepped plain Good (R Others) step → (found : Option (Outcome (State P))) (state : State P) → step state ≡ found → IsSteady plain Good state → Walks Others state (step_or_refuse servers line found state)
   step-walks line step steps None state is steady = refuse-walks state line steady

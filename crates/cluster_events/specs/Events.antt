@@ -2,6 +2,7 @@
 use Rattle.std.specs.Prelude.{ℕ, suc, Bool, true, false, ◌==◌, if◌then◌else◌, Option, Some, None, List, [], ◌∷◌, length}
 use Rattle.script_lines.specs.declared.line.Line.{Line}
 use Rattle.script_lines.specs.declared.line.Line.TheVariants.{Deliver, Mirror, Ack, Work, Push}
+use Rattle.script_language.specs.Printing.{line_text}
 use Rattle.cluster_facts.specs.Types.{Call, Reply, Called, Receipted, Message, Request, Answer, Delivery, Receipt}
 use Rattle.cluster_facts.specs.Service.{Plain, answers_in, is_new}
 use Rattle.cluster_facts.specs.Agents.{resent}
@@ -59,7 +60,7 @@ delivered plain servers place message state = hear plain servers place message s
 
 -- the event of a line is refused
 abbrev pub refuse : {P : Type 0} → Servers P → Line → State P → Outcome (State P)
-refuse servers line state = telling state (Refused line (servers.standing state))
+refuse servers line state = telling state (Refused (line_text line) (servers.standing state))
 
 -- bytes that no message spells have no effect, whatever is in hand
 abbrev pub deliver_by : {P : Type 0} → Plain → Servers P → ℕ → Option Posting → State P → Outcome (State P)

@@ -1,6 +1,5 @@
 -- Words of public clauses: the lines that events print.
 use Rattle.std.specs.Prelude.{ℕ, Bool, true, false, List, [], ◌∷◌}
-use Rattle.script_lines.specs.declared.line.Line.{Line}
 use Rattle.script_lines.specs.declared.line.Server.{Server}
 use Rattle.script_lines.specs.declared.line.Server.TheVariants.{A, B, C}
 pub use Rattle.cluster_events.specs.declared.lines.ServerRole.{ServerRole}
@@ -28,8 +27,8 @@ pub data Told : Type 0 where
   Dispatched : (client count : ℕ) → Told
   -- the delivered byte string of this number had no effect
   Ignored : (place : ℕ) (why : Why) → Told
-  -- the event of a script's line is refused
-  Refused : (line : Line) (standing : Standing) → Told
+  -- the event of a script's line of this text is refused
+  Refused : (text : List ℕ) (standing : Standing) → Told
   -- a server's role
   Stood : (server : Server) (role : ServerRole) → Told
   -- a file and its length; a line of a file

@@ -6,6 +6,7 @@ use Rattle.std.proofs.lemmas.List.{append-nil}
 use Rattle.disk_model.specs.Disk.{Files}
 use Rattle.script_lines.specs.declared.line.Line.{Line}
 use Rattle.script_lines.specs.declared.line.Line.TheVariants as line
+use Rattle.script_language.specs.Printing.{line_text}
 use Rattle.plain_service.specs.Setups.{Setup}
 use Rattle.cluster_events.specs.declared.lines.Standing.{Standing}
 use Rattle.cluster_events.specs.declared.lines.Roles.{Roles}
@@ -43,9 +44,9 @@ shelf_with ones texts = record { listing = λ past. ones; text = λ name past. t
 
 module _ {Peers Group : Type 0} (kit : Kit Peers Group) where
   -- **a refusal tells how the servers stand**
-  pub refused-does : (next : Line) (world : Cluster Group) (standing : Standing) (before after : List (List ℕ)) → (StandsAs kit) world standing → after ≡ before ++ refused_line next standing ∷ [] → (Does kit) ((refused kit) next) world world before after
+  pub refused-does : (next : Line) (world : Cluster Group) (standing : Standing) (before after : List (List ℕ)) → (StandsAs kit) world standing → after ≡ before ++ refused_line (line_text next) standing ∷ [] → (Does kit) ((refused kit) next) world world before after
   refused-does next world standing before after stands is setup state good shows =
-      (shows, good, is ∙ ap (λ s. before ++ refused_line next s ∷ []) (stands setup state good shows))
+      (shows, good, is ∙ ap (λ s. before ++ refused_line (line_text next) s ∷ []) (stands setup state good shows))
 
   -- **the servers are listed**
   pub servers-does : (world : Cluster Group) (standing : Standing) (before after : List (List ℕ)) → (StandsAs kit) world standing → after ≡ before ++ role_lines (listed_roles standing.roles) → (Does kit) (servers_listed kit) world world before after

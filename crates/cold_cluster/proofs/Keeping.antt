@@ -3,6 +3,7 @@ use Rattle.std.proofs.Common.{◌≡◌, ℕ, inl, inr, Bool, true, false, Optio
 use Rattle.script_lines.specs.declared.line.Line.{Line}
 use Rattle.script_lines.specs.declared.line.Line.TheVariants as line
 use Rattle.script_lines.specs.declared.line.Server.TheVariants.{A, B, C}
+use Rattle.script_language.specs.Printing.{line_text}
 use Rattle.cluster_facts.specs.Types.{Message, Answer, Delivery}
 use Rattle.cluster_facts.specs.Agents.{resent}
 use Rattle.cluster_facts.specs.Messages.{Posting, Spelled, Raw}
@@ -46,7 +47,7 @@ module _ (plain : Plain) (is_plain : IsPlain plain) where
   arms armed beside state steady = arms-keep plain is_plain (Says plain) (says-borne plain) armed beside state steady
 
   refuses : (device : Device) (next : Line) (state : State Alone) → IsSteady plain IsCold state → Keeps plain state (refuse (alone plain device) next state)
-  refuses device next state steady = (steady, (says-borne plain).refused state.world next (standing_cold state))
+  refuses device next state steady = (steady, (says-borne plain).refused state.world (line_text next) (standing_cold state))
 
   ignores : (place : ℕ) (why : Why) (state : State Alone) → IsSteady plain IsCold state → Keeps plain state (telling state (Ignored place why))
   ignores place why state steady = (steady, (carried (record { calls = λ past entry. 0; fails = λ number. 0 })).ignored state.world place why)

@@ -2,6 +2,7 @@
 use Rattle.std.proofs.Common.{◌≡◌, Some, None, pos, [], ◌∷◌, refl}
 use Rattle.script_lines.specs.declared.line.Line.TheVariants as line
 use Rattle.script_lines.specs.declared.line.Server.TheVariants.{A, B}
+use Rattle.script_language.specs.Printing.{line_text}
 use Rattle.cluster_facts.specs.Types.{Start, Other, Log, Done, Called, Answer}
 use Rattle.cluster_events.specs.Lines.{Posted, Committed, Ignored, Refused, Stood}
 use Rattle.cluster_events.specs.declared.lines.Why.TheVariants as because
@@ -30,7 +31,7 @@ begun = (round ready servers (in_world (ask ready 1 (Start Log (record { release
 abbrev waits : State Alone
 waits = (deliver ready servers 3 (in_world (ask ready 1 (Other write)) begun).state).state
 
-pub wait_shows : (deliver ready servers 9 waits).told ≡ Refused (line.Deliver 9) (record { roles = Two Active Journal; net = 3; link = 1; back = 0; in_hand = Some 2 }) ∷ []
+pub wait_shows : (deliver ready servers 9 waits).told ≡ Refused (line_text (line.Deliver 9)) (record { roles = Two Active Journal; net = 3; link = 1; back = 0; in_hand = Some 2 }) ∷ []
 wait_shows = refl
 
 -- The entry joins the journal, and so is committed.
@@ -78,7 +79,7 @@ down_ignores = refl
 pub again_ignored : (resend_down ready 1 lost).told ≡ Ignored 3 because.ServerDown ∷ []
 again_ignored = refl
 
-pub down_shows : (deliver_down ready calls 9 lost).told ≡ Refused (line.Deliver 9) (record { roles = Two Down Journal; net = 3; link = 0; back = 0; in_hand = None }) ∷ []
+pub down_shows : (deliver_down ready calls 9 lost).told ≡ Refused (line_text (line.Deliver 9)) (record { roles = Two Down Journal; net = 3; link = 0; back = 0; in_hand = None }) ∷ []
 down_shows = refl
 
 -- It comes back. Where the journal has the entry that waited, its saved reply is given; else it is new once it is sent again.

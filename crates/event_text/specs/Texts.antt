@@ -4,7 +4,7 @@ use Rattle.std.specs.Fmt.{decimal, signed_decimal}
 use Rattle.std.specs.List.{filter, join_by}
 use Rattle.ais_values.specs.Statuses.{status_word}
 use Rattle.script_grammar.specs.Writing.{joined}
-use Rattle.script_language.specs.Printing.{server_text, stream_text, shown_note_text, line_text}
+use Rattle.script_language.specs.Printing.{server_text, stream_text, shown_note_text}
 use Rattle.sub_queue.specs.declared.item.Lost.{Lost}
 use Rattle.cluster_facts.specs.Types.{Status, WireWhy, Reply, Refused as Rejected, Done, Sent, Found, Marked, Entry, Called, Receipted}
 use Rattle.cluster_facts.specs.Types.{StreamName, Success, Callback, Written, Notified, Discarded, MaskSet, Message, Request, Answer, Delivery, Receipt}
@@ -160,11 +160,11 @@ abbrev pub hand_text : Option ℕ → List ℕ
 hand_text None = codes "-"
 hand_text (Some number) = decimal number
 
--- the event of a script's line is refused
-unfoldable pub refused_line : Rattle.script_lines.specs.declared.line.Line.Line → Standing → List ℕ
-refused_line line standing =
+-- the event of a script's line of this text is refused
+unfoldable pub refused_line : (text : List ℕ) → Standing → List ℕ
+refused_line text standing =
     joined (
-    codes "refused " ∷ line_text line
+    codes "refused " ∷ text
     ∷ roles_text (listed_roles standing.roles)
     ∷ codes " net=" ∷ decimal standing.net
     ∷ codes " link=" ∷ decimal standing.link
@@ -197,7 +197,7 @@ lines_of (Declined client status) = declined_line client status ∷ []
 lines_of (HandedOut client number callback) = callback_lines client number callback
 lines_of (Dispatched client count) = dispatched_line client count ∷ []
 lines_of (Ignored place why) = ignored_line place why ∷ []
-lines_of (Refused line standing) = refused_line line standing ∷ []
+lines_of (Refused text standing) = refused_line text standing ∷ []
 lines_of (Stood server role) = server_line server role ∷ []
 lines_of (Listed name size) = file_line name size ∷ []
 lines_of (Shown text) = text_line text ∷ []

@@ -1,6 +1,8 @@
 //! Lines on the net, the history, servers and files.
 ghost use Rattle.std.specs.Prelude.{◌≡◌, ◌++◌, ◌∷◌, [], OnOk, OnErr};
+ghost use Rattle.script_language.specs.Printing.{line_text};
 ghost use Rattle.cluster_events.specs.Lines.{listed_roles};
+ghost use Rattle.event_text.specs.Pieces.{piece_text};
 ghost use Rattle.event_text.specs.Texts.{post_lines, raw_line, entry_line, ignored_line, refused_line, role_lines, server_line, file_line, text_line};
 
 use crate::pieces::{Piece, put_line};
@@ -195,16 +197,16 @@ pub fn put_ignored(
     )
 }
 
-/// Adds the line of a refused event: the script's line, and how the cluster stands. Where memory runs out nothing is added.
+/// Adds the line of a refused event of which this piece is the script's line.
 #[tactic(auto, unfolding(crate::specs::Texts::refused_line))]
-pub fn put_refused(
+fn put_refused_piece(
     alloc: Global,
     lines: &mut Vec<Seq<u8>>,
-    line: &Line,
+    piece: Piece,
     standing: &Standing,
 ) -> Result<(), AllocError>
     ensures ok { OnOk result (lines.new.items ≡ lines.old.items
-        ++ refused_line line.now standing.now ∷ []) }
+        ++ refused_line (piece_text piece.entry) standing.now ∷ []) }
     ensures err { OnErr result (lines.new.items ≡ lines.old.items) }
 {
     put_line(
@@ -212,7 +214,7 @@ pub fn put_refused(
         lines,
         &[
             Piece::Word(b"refused "),
-            Piece::Script(line),
+            piece,
             Piece::Roles(standing.roles),
             Piece::Word(b" net="),
             Piece::Number(standing.net),
@@ -225,6 +227,34 @@ pub fn put_refused(
             Piece::Word(b"\n"),
         ],
     )
+}
+
+/// Adds the line of a refused event: the script's line, and how the cluster stands. Where memory runs out nothing is added.
+pub fn put_refused(
+    alloc: Global,
+    lines: &mut Vec<Seq<u8>>,
+    line: &Line,
+    standing: &Standing,
+) -> Result<(), AllocError>
+    ensures ok { OnOk result (lines.new.items ≡ lines.old.items
+        ++ refused_line (line_text line.now) standing.now ∷ []) }
+    ensures err { OnErr result (lines.new.items ≡ lines.old.items) }
+{
+    put_refused_piece(alloc, lines, Piece::Script(line), standing)
+}
+
+/// The same of a line of this text, without its LF.
+pub fn put_refused_text(
+    alloc: Global,
+    lines: &mut Vec<Seq<u8>>,
+    text: &[u8],
+    standing: &Standing,
+) -> Result<(), AllocError>
+    ensures ok { OnOk result (lines.new.items ≡ lines.old.items
+        ++ refused_line text.now standing.now ∷ []) }
+    ensures err { OnErr result (lines.new.items ≡ lines.old.items) }
+{
+    put_refused_piece(alloc, lines, Piece::Word(text), standing)
 }
 
 /// Adds the line of a server's role. Where memory runs out nothing is added.

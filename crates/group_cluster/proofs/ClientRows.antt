@@ -13,6 +13,7 @@ use Rattle.cluster_events.specs.Servers.{State, Servers, in_world}
 use Rattle.cluster_events.specs.ClientEvents.{ask, dispatch_one, dispatch_all}
 use Rattle.script_lines.specs.declared.line.Line.TheVariants.{Deliver, Push}
 use Rattle.script_lines.specs.declared.line.Server.TheVariants.{A, B}
+use Rattle.script_language.specs.Printing.{line_text}
 use Rattle.cluster_events.specs.declared.lines.ServerRole.TheVariants.{Active, Down}
 use Rattle.cluster_events.specs.declared.lines.Roles.TheVariants.{Two}
 use Rattle.cluster_events.specs.Events.{deliver, push}
@@ -81,11 +82,11 @@ ahead : (deliver ready (alone ready) 2 begun.state).told ≡ Ignored 2 because.A
 ahead = refl
 
 -- while an entry is in hand nothing is pushed
-push_refused : (push ready (alone ready) (deliver ready (alone ready) 1 begun.state).state).told ≡ Refused Push (record { roles = Two Active Down; net = 2; link = 0; back = 0; in_hand = Some 1 }) ∷ []
+push_refused : (push ready (alone ready) (deliver ready (alone ready) 1 begun.state).state).told ≡ Refused (line_text Push) (record { roles = Two Active Down; net = 2; link = 0; back = 0; in_hand = Some 1 }) ∷ []
 push_refused = refl
 
 -- a message that was not posted cannot be delivered
-deliver_refused : (deliver ready (alone ready) 3 begun.state).told ≡ Refused (Deliver 3) (record { roles = Two Active Down; net = 2; link = 0; back = 0; in_hand = None }) ∷ []
+deliver_refused : (deliver ready (alone ready) 3 begun.state).told ≡ Refused (line_text (Deliver 3)) (record { roles = Two Active Down; net = 2; link = 0; back = 0; in_hand = None }) ∷ []
 deliver_refused = refl
 
 -- with one place for callbacks the reply of a second write is left, and its call stays unanswered

@@ -3,6 +3,7 @@ use Rattle.std.proofs.Common.{◌≡◌, ℕ, ◌≤◌, Bool, true, false, ◌&
 use Rattle.script_lines.specs.declared.line.Line.{Line}
 use Rattle.script_lines.specs.declared.line.Line.TheVariants as line
 use Rattle.script_lines.specs.declared.line.Server.{Server}
+use Rattle.script_language.specs.Printing.{line_text}
 use Rattle.cluster_facts.specs.Service.{Plain, IsPlain}
 use Rattle.cluster_facts.specs.History.{Hand}
 use Rattle.cluster_facts.specs.World.{World}
@@ -26,7 +27,7 @@ module _ (plain : Plain) (is_plain : IsPlain plain) (device : Device) (R : World
   Keeps state outcome = IsSteady plain IsGroup outcome.state × R state.world outcome.state.world outcome.told
 
   refused-keeps : (state : State Peers) (next : Line) → IsSteady plain IsGroup state → Keeps state (refused next state)
-  refused-keeps state next steady = (steady, bears.refused state.world next (standing_group state))
+  refused-keeps state next steady = (steady, bears.refused state.world (line_text next) (standing_group state))
 
   pub over-keeps : (state : State Peers) → IsSteady plain IsGroup state → Keeps state (taken_over device state)
   over-keeps state steady =

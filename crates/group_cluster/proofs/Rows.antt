@@ -3,6 +3,7 @@ use Rattle.std.proofs.Common.{◌≡◌, ℕ, Some, None, Bool, true, false, if�
 use Rattle.script_lines.specs.declared.line.Line.TheVariants as line
 use Rattle.script_lines.specs.declared.line.Server.{Server}
 use Rattle.script_lines.specs.declared.line.Server.TheVariants.{A, B}
+use Rattle.script_language.specs.Printing.{line_text}
 use Rattle.stream_config.specs.declared.attrs.StreamName.TheVariants.{System}
 use Rattle.record_print.specs.declared.record.Header.{Header}
 use Rattle.record_print.specs.declared.record.Header.TheVariants.{Generic}
@@ -126,7 +127,7 @@ worked_then = refl
 abbrev armed : State Peers
 armed = (arm A 5 start).state
 
-pub standby_serves : (crash B armed).told ≡ Refused (line.Crash B) (record { roles = Two Armed Standby; net = 0; link = 0; back = 0; in_hand = None }) ∷ []
+pub standby_serves : (crash B armed).told ≡ Refused (line_text (line.Crash B)) (record { roles = Two Armed Standby; net = 0; link = 0; back = 0; in_hand = None }) ∷ []
 standby_serves = refl
 
 pub armed_listed : (list_servers calm armed).told ≡ Stood B Standby ∷ Stood A Armed ∷ []
@@ -173,7 +174,7 @@ alone_ready = crash B (deliver ready calm 3 sent).state
 pub commits_then : alone_ready.told ≡ Stood B Down ∷ Committed 2 (Called 1 2 (pos 5) write) ∷ []
 commits_then = refl
 
-pub snapshot_owed : (mirror_next calm (restart B alone_ready.state).state).told ≡ Refused line.Mirror (record { roles = Two Active Joining; net = 3; link = 0; back = 0; in_hand = Some 2 }) ∷ []
+pub snapshot_owed : (mirror_next calm (restart B alone_ready.state).state).told ≡ Refused (line_text line.Mirror) (record { roles = Two Active Joining; net = 3; link = 0; back = 0; in_hand = Some 2 }) ∷ []
 snapshot_owed = refl
 
 pub snapshot_sent : (mirror_next calm (work_next calm (restart B alone_ready.state).state).state).told ≡ Stood B Standby ∷ []
@@ -181,19 +182,19 @@ snapshot_sent = refl
 
 -- Refusals.
 
-pub down_twice : (crash B down).told ≡ Refused (line.Crash B) (record { roles = Two Active Down; net = 0; link = 0; back = 0; in_hand = None }) ∷ []
+pub down_twice : (crash B down).told ≡ Refused (line_text (line.Crash B)) (record { roles = Two Active Down; net = 0; link = 0; back = 0; in_hand = None }) ∷ []
 down_twice = refl
 
-pub last_stays : (crash A down).told ≡ Refused (line.Crash A) (record { roles = Two Active Down; net = 0; link = 0; back = 0; in_hand = None }) ∷ []
+pub last_stays : (crash A down).told ≡ Refused (line_text (line.Crash A)) (record { roles = Two Active Down; net = 0; link = 0; back = 0; in_hand = None }) ∷ []
 last_stays = refl
 
-pub last_unarmed : (arm A 1 down).told ≡ Refused (line.Arm A 1) (record { roles = Two Active Down; net = 0; link = 0; back = 0; in_hand = None }) ∷ []
+pub last_unarmed : (arm A 1 down).told ≡ Refused (line_text (line.Arm A 1)) (record { roles = Two Active Down; net = 0; link = 0; back = 0; in_hand = None }) ∷ []
 last_unarmed = refl
 
-pub standby_unarmed : (arm B 1 start).told ≡ Refused (line.Arm B 1) (record { roles = Two Active Standby; net = 0; link = 0; back = 0; in_hand = None }) ∷ []
+pub standby_unarmed : (arm B 1 start).told ≡ Refused (line_text (line.Arm B 1)) (record { roles = Two Active Standby; net = 0; link = 0; back = 0; in_hand = None }) ∷ []
 standby_unarmed = refl
 
-pub standing_again : (restart A start).told ≡ Refused (line.Restart A) (record { roles = Two Active Standby; net = 0; link = 0; back = 0; in_hand = None }) ∷ []
+pub standing_again : (restart A start).told ≡ Refused (line_text (line.Restart A)) (record { roles = Two Active Standby; net = 0; link = 0; back = 0; in_hand = None }) ∷ []
 standing_again = refl
 
 -- A fault in the work of a server that has no standby ends the run, and so does one in a takeover.

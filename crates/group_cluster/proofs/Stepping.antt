@@ -3,7 +3,6 @@
 use Rattle.std.proofs.Common.{◌≡◌, ℕ, zero, suc, ◌+◌, ◌-◌, ◌≤◌, ◌⊎◌, inl, inr, Bool, true, false, ◌&&◌, ◌||◌, nat_le, if◌then◌else◌, Option, Some, None, List, [], ◌∷◌, ◌++◌, length, refl, ap, sym, ◌∙◌, subst, arith, leb-false}
 use Rattle.std.specs.List.{AllByRecursion}
 use Rattle.disk_model.specs.Counts.{reaches, lowered}
-use Rattle.script_lines.specs.declared.line.Line.{Line}
 use Rattle.script_lines.specs.declared.line.Server.{Server}
 use Rattle.cluster_facts.specs.Types.{Entry}
 use Rattle.cluster_facts.specs.Service.{Plain, IsPlain}
@@ -35,7 +34,7 @@ pub record Bears (plain : Plain) (R : World → World → List Told → Type 0) 
   pub same : (world : World) → R world world []
   pub both : (one two three : World) (first second : List Told) → R one two first → R two three second → R one three (second ++ first)
   pub stood : (world : World) (server : Server) (stands_as : ServerRole) → R world world (Stood server stands_as ∷ [])
-  pub refused : (world : World) (line : Line) (standing : Standing) → R world world (Refused line standing ∷ [])
+  pub refused : (world : World) (text : List ℕ) (standing : Standing) → R world world (Refused text standing ∷ [])
   -- an entry of the time in force is accepted, applied by all and so committed, and confirmed
   pub taken : (world : World) (past : List Entry) (entry : Entry) → time_of entry ≡ world.now → R (with_core past Empty world) (with_core past (Waiting entry) world) []
   pub applied : (world : World) (past : List Entry) (entry : Entry) → IsSound plain (with_core past (Waiting entry) world) → R (with_core past (Waiting entry) world) (with_core past (Applied entry) world) (Committed (suc (length past)) entry ∷ [])

@@ -29,7 +29,7 @@ module _ (plain : Plain) (R : World → World → List Told → Type 0) (told : 
     same = told.same;
     both = told.both;
     stood = λ world server role. shows world (Stood server role) tt;
-    refused = λ world line standing. shows world (Refused line standing) tt;
+    refused = λ world text standing. shows world (Refused text standing) tt;
     taken = cored.taken;
     applied = λ world past entry sound. cored.applied world past entry;
     confirmed = cored.confirmed;

@@ -3,6 +3,7 @@ use Rattle.std.specs.Prelude.{ℕ, zero, suc, ◌-◌, Bool, true, false, ◌&&�
 use Rattle.script_lines.specs.declared.line.Line.{Line}
 use Rattle.script_lines.specs.declared.line.Line.TheVariants as line
 use Rattle.script_lines.specs.declared.line.Server.{Server}
+use Rattle.script_language.specs.Printing.{line_text}
 use Rattle.cluster_facts.specs.Types.{Entry}
 use Rattle.cluster_facts.specs.History.{Hand, Empty, Waiting, Applied, Ready, committed_by}
 use Rattle.cluster_events.specs.Lines.{Told, Committed, Refused, Stood}
@@ -17,7 +18,7 @@ use Rattle.group_cluster.specs.Seats.{any_seat, count_seats, on_seats, same_serv
 
 -- the event of a line is refused
 abbrev pub refused : Line → State Peers → Outcome (State Peers)
-refused line state = telling state (Refused line (standing_group state))
+refused line state = telling state (Refused (line_text line) (standing_group state))
 
 -- The entry in hand is looked at again: it waits while it goes to some server; once all applied it, it is committed; and it is ready once
 -- all of them confirmed it.

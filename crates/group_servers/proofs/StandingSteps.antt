@@ -5,6 +5,7 @@ use Rattle.std.proofs.lemmas.List.{length-map}
 use Rattle.script_lines.specs.declared.line.Line.{Line}
 use Rattle.script_lines.specs.declared.line.Server.{Server}
 use Rattle.script_lines.specs.declared.line.Server.TheVariants.{A, B}
+use Rattle.script_language.specs.Printing.{line_text}
 use Rattle.plain_service.specs.Setups.{Setup}
 use Rattle.cluster_facts.specs.Types.{Entry}
 use Rattle.cluster_facts.specs.History.{Hand, Empty, Waiting, Applied, Ready}
@@ -154,6 +155,6 @@ module _ (n : ℕ) where
       })
 
   -- **a refusal leaves all as it is, and prints its line**
-  pub refuses : (line : Line) (world : Cluster (Group n)) (before after : List (List ℕ)) → after ≡ before ++ refused_line line (standing_as world) ∷ [] → Does (group_kit n) (refused_by n line) world world before after
+  pub refuses : (line : Line) (world : Cluster (Group n)) (before after : List (List ℕ)) → after ≡ before ++ refused_line (line_text line) (standing_as world) ∷ [] → Does (group_kit n) (refused_by n line) world world before after
   refuses line world before after is setup state good shows =
-      (shows, good, is ∙ ap (λ standing. before ++ refused_line line standing ∷ []) (standing-is setup state world good shows))
+      (shows, good, is ∙ ap (λ standing. before ++ refused_line (line_text line) standing ∷ []) (standing-is setup state world good shows))

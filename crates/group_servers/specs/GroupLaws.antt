@@ -69,8 +69,8 @@ unasked-borne plain =
         says = says.stood world server stands_as;
         asks = record { sent = λ client. refl; now = refl; times = tt; waits = waits-same world world.core.hand refl };
       };
-      refused = λ world line standing. record {
-        says = says.refused world line standing;
+      refused = λ world text standing. record {
+        says = says.refused world text standing;
         asks = record { sent = λ client. refl; now = refl; times = tt; waits = waits-same world world.core.hand refl };
       };
       taken = λ world past entry in_force. record {

@@ -4,7 +4,8 @@ use calls::{Boxed, Call, Callback, Entry, Reply};
 use cluster_events::{Roles, ServerRole, Standing, Why};
 use event_text::{
     put_callback, put_declined, put_dispatched, put_entry, put_file, put_ignored, put_post,
-    put_raw, put_refused, put_reply, put_server, put_servers, put_shown, put_text,
+    put_raw, put_refused, put_refused_text, put_reply, put_server, put_servers, put_shown,
+    put_text,
 };
 use ntf_types::{Body, Notification};
 use script_lines::{Line, Server};
@@ -43,15 +44,22 @@ fn accept(rt: &impl Abort, alloc: Global, number: u64, entry: Entry, want: &[u8]
     are(rt, alloc, lines, want);
 }
 
-fn refuse(rt: &impl Abort, alloc: Global, server: Server, roles: Roles, want: &[u8]) {
-    let line = Line::Crash { server };
-    let standing = Standing {
+/// Servers of these roles at rest.
+fn at_rest(roles: Roles) -> Standing {
+    Standing {
         roles,
         net: 0,
         link: 0,
         back: 0,
         in_hand: None,
-    };
+    }
+}
+
+fn refuse(rt: &impl Abort, alloc: Global, line: Line, want: &[u8]) {
+    let standing = at_rest(Roles::Two {
+        a: ServerRole::Armed,
+        b: ServerRole::Standby,
+    });
     let mut lines = Vec::new(alloc);
     let done = put_refused(alloc, &mut lines, &line, &standing);
     drop(line);
@@ -189,19 +197,18 @@ fn tells_of_what_has_no_effect(rt: HostRuntime) {
     put_ignored(alloc, &mut lines, 9, Why::ServerDown).expect(&rt, "memory");
     let told = b"ignored 7 taken\nignored 8 busy 12\nignored 9 down\n".as_slice();
     are(&rt, alloc, lines, told);
-    let two = Roles::Two {
-        a: ServerRole::Armed,
-        b: ServerRole::Standby,
-    };
+    let crash = Line::Crash { server: Server::B };
     let told = b"refused crash b a=armed b=standby net=0 link=0 back=0 hand=-\n".as_slice();
-    refuse(&rt, alloc, Server::B, two, told);
-    let three = Roles::Three {
+    refuse(&rt, alloc, crash, told);
+    let three = at_rest(Roles::Three {
         a: ServerRole::Armed,
         b: ServerRole::Down,
         c: ServerRole::Standby,
-    };
-    let told = b"refused crash c a=armed b=down c=standby net=0 link=0 back=0 hand=-\n".as_slice();
-    refuse(&rt, alloc, Server::C, three, told);
+    });
+    let mut lines = Vec::new(alloc);
+    put_refused_text(alloc, &mut lines, b"mirror c", &three).expect(&rt, "memory");
+    let told = b"refused mirror c a=armed b=down c=standby net=0 link=0 back=0 hand=-\n".as_slice();
+    are(&rt, alloc, lines, told);
 }
 
 #[test]

@@ -45,7 +45,7 @@ pub refuses-cored : IsCored (Refuses Others)
 refuses-cored = cored-alone (Refuses Others) (λ world one other hand next. refl) (λ world past hand next number entry. refl)
 
 show-refuses : (line : Told) → IsShow line → refusals_told (line ∷ []) ≡ []
-show-refuses (Refused refused standing) shows = refl
+show-refuses (Refused text standing) shows = refl
 show-refuses (Stood server role) shows = refl
 show-refuses (Listed name count) shows = refl
 show-refuses (Shown text) shows = refl

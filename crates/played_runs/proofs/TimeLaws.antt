@@ -69,7 +69,7 @@ in_time-cored = record {
 }
 
 show-none : (line : Told) → IsShow line → entries_told (line ∷ []) ≡ []
-show-none (Refused refused standing) shows = refl
+show-none (Refused text standing) shows = refl
 show-none (Stood server role) shows = refl
 show-none (Listed name count) shows = refl
 show-none (Shown text) shows = refl

@@ -148,7 +148,7 @@ passes-without old new told passes = record {
 }
 
 show-quiet : (line : Told) → IsShow line → (client : ℕ) → replies_told client (line ∷ []) ≡ []
-show-quiet (Refused refused standing) shows client = refl
+show-quiet (Refused text standing) shows client = refl
 show-quiet (Stood server role) shows client = refl
 show-quiet (Listed name count) shows client = refl
 show-quiet (Shown text) shows client = refl
