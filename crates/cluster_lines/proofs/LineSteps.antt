@@ -359,7 +359,7 @@ module _ {Peers Group : Type 0} (kit : Kit Peers Group) (laws : IsKit kit) (scri
         happened = halted.happened;
         outcome = outcome;
         leads = follows.halts (plain_of setup) (shelf_of setup) (device_by setup halted.happened) state halted.end (shared setup state good shows) (halted.ends.is halted.happened (λ number above within. refl));
-        uses = follows.settled setup halted.happened state outcome held left (laws.used_printed setup halted.happened state halted.end held left halted.uses);
+        uses = follows.settle_halts setup halted.happened state halted.end held left halted.uses;
         is = (halted.shows, halted.good, halted.lines);
         count = halted.count;
         files = halted.files tells;

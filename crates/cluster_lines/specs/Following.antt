@@ -44,10 +44,13 @@ pub record IsScript {P S : Type 0} (kit : Kit P S) (script : Script P kit.Seen) 
       → IsInHand ((kit.servers plain device).standing state).in_hand state.world.core.hand
   pub told : (setup : Setup) (next : Line) (state : State P) (seen : kit.Seen) → shows_files next ≡ true → script.Shares next state
       → kit.Tells setup state seen → TellsFiles setup state (kit.files seen)
-  -- what `settle` counted is what its line counted; a line that is not the servers' own asks nothing of the disks, or shows files of the
-  -- first
+  -- what `settle` counted is what its line counted, where a stop or a fault ends it too; a line that is not the servers' own asks nothing
+  -- of the disks, or shows files of the first
   pub settled : (setup : Setup) (happened : ℕ → ℕ) (state : State P) (outcome : Outcome (State P)) (held left : kit.Seen)
       → kit.Uses setup happened state outcome held left → script.Uses Settle setup happened state outcome held left
+  pub settle_halts : (setup : Setup) (happened : ℕ → ℕ) (state : State P) (end : Outcome (State P)) (held left : kit.Seen)
+      → kit.Halts setup happened state end held left
+      → script.Uses Settle setup happened state (record { state = end.state; told = without is_ignored end.told }) held left
   pub settle_faults : (setup : Setup) (happened : ℕ → ℕ) (state : State P) (end : Outcome (State P)) (held left : kit.Seen)
       → kit.Faults setup happened state end held left
       → script.Faults Settle setup happened state (record { state = end.state; told = without is_ignored end.told }) held left

@@ -181,7 +181,7 @@ module _ {Peers Group : Type 0} (kit : Kit Peers Group) (laws : IsKit kit) where
         happened = spliced (answered_in came.outcome.state) came.happened halted.happened;
         end = behind came.outcome halted.end;
         ends = ends-behind (first setup) (Inner Stopped setup) (Outer Stopped setup) came.happened halted.happened state came.outcome halted.end (λ fails stop. stops Stopped setup fails state good so stop) came.comes halted.ends;
-        uses = laws.used_both setup came.happened halted.happened state came.outcome halted.end held told left came.uses halted.uses;
+        uses = laws.halts_behind setup came.happened halted.happened state came.outcome halted.end held told left came.uses halted.uses;
         good = halted.good;
         says = Says-both (plain_of setup) state.world came.outcome.state.world halted.end.state.world came.outcome.told halted.end.told next.1.says halted.says;
         shows = halted.shows;

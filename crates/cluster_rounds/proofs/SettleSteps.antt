@@ -131,7 +131,7 @@ module _ {Peers Group : Type 0} (kit : Kit Peers Group) (laws : IsKit kit) where
             is = refl;
           };
         };
-        uses = laws.used_both setup so_far.happened halted.happened state (record { state = so_far.state; told = so_far.told }) halted.end held told left so_far.uses halted.uses;
+        uses = laws.halts_behind setup so_far.happened halted.happened state (record { state = so_far.state; told = so_far.told }) halted.end held told left so_far.uses halted.uses;
         good = halted.good;
         says = Says-both (plain_of setup) state.world so_far.state.world halted.end.state.world so_far.told halted.end.told (settling-says setup state now before between held told good so_far).says halted.says;
         shows = halted.shows;

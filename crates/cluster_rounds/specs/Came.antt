@@ -70,7 +70,7 @@ module _ {Peers Group : Type 0} (kit : Kit Peers Group) where
     pub happened : ℕ → ℕ
     pub end : Outcome (State Peers)
     pub ends : EndsOver Ends happened state end
-    pub uses : kit.Uses setup happened state end held left
+    pub uses : kit.Halts setup happened state end held left
     pub good : IsGood kit setup end.state
     pub says : Says (plain_of setup) state.world end.state.world end.told
     pub shows : Shows kit setup end.state new

@@ -49,9 +49,10 @@ pub record Kit (P S : Type 0) : Type 1 where
   -- which none goes on. What servers of the code and the disks are behind such a fault
   pub EndsAt : DiskAnswer → Plain → Device → EndAt P
   pub Fell : Setup → State P → S → Seen → Type 0
-  -- what the disks counted as an event came from a state to an outcome, by the works that failed; as it ended there by a fault; and as
-  -- memory was wanting, with the history and the servers of the code as they are then
+  -- what the disks counted as an event came from a state to an outcome, by the works that failed; as it ended there by a stop, or by a
+  -- fault; and as memory was wanting, with the history and the servers of the code as they are then
   pub Uses : Setup → (ℕ → ℕ) → State P → Outcome (State P) → Seen → Seen → Type 0
+  pub Halts : Setup → (ℕ → ℕ) → State P → Outcome (State P) → Seen → Seen → Type 0
   pub Faults : Setup → (ℕ → ℕ) → State P → Outcome (State P) → Seen → Seen → Type 0
   pub Lacks : Setup → State P → List Entry → S → Seen → Seen → Type 0
   -- how the disks' counts may go on any disks where an event is done, and where one ends by a fault
@@ -117,6 +118,9 @@ pub record IsKit {P S : Type 0} (kit : Kit P S) : Type 0 where
   pub used_printed : (setup : Setup) (happened : ℕ → ℕ) (state : State P) (outcome : Outcome (State P)) (held left : kit.Seen)
       → kit.Uses setup happened state outcome held left
       → kit.Uses setup happened state (record { state = outcome.state; told = without is_ignored outcome.told }) held left
+  pub halts_behind : (setup : Setup) (one two : ℕ → ℕ) (state : State P) (first end : Outcome (State P)) (held told left : kit.Seen)
+      → kit.Uses setup one state first held told → kit.Halts setup two first.state end told left
+      → kit.Halts setup (spliced (answered_in first.state) one two) state (behind first end) held left
   pub faults_behind : (setup : Setup) (one two : ℕ → ℕ) (state : State P) (first end : Outcome (State P)) (held told left : kit.Seen)
       → kit.Uses setup one state first held told → kit.Faults setup two first.state end told left
       → kit.Faults setup (spliced (answered_in first.state) one two) state (behind first end) held left

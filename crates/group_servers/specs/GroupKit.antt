@@ -56,6 +56,8 @@ group_kit n = record {
   Fell = λ setup state servers left. FellGroup setup state servers left.tally.armed;
   Uses = λ setup happened state outcome held left.
       UsesGroup setup happened state.world.core.answered outcome.state.world.core.answered outcome.told (counters_of held) (counters_of left);
+  Halts = λ setup happened state outcome held left.
+      UsesGroup setup happened state.world.core.answered outcome.state.world.core.answered outcome.told (counters_of held) (counters_of left);
   Faults = λ setup happened state end held left.
       FaultsGroup setup happened state.world.core.answered end.state.world.core.answered (counters_of held) (counters_of left);
   Lacks = λ setup state entries servers held left.

@@ -208,6 +208,9 @@ group_laws n = record {
       (counters_of held) (counters_of told) (counters_of left) before after;
   used_printed = λ setup happened state outcome held left uses.
       uses-printed setup happened state.world.core.answered outcome.state.world.core.answered outcome.told (counters_of held) (counters_of left) uses;
+  halts_behind = λ setup one two state first end held told left before after.
+      uses-both setup one two state.world.core.answered first.state.world.core.answered end.state.world.core.answered first.told end.told
+      (counters_of held) (counters_of told) (counters_of left) before after;
   faults_behind = λ setup one two state first end held told left before after.
       faults-behind setup one two state.world.core.answered first.state.world.core.answered end.state.world.core.answered first.told
       (counters_of held) (counters_of told) (counters_of left) before after;

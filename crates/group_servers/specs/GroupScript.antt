@@ -8,8 +8,10 @@ use Rattle.disk_model.specs.declared.answers.DiskAnswer.TheVariants.{Stopped}
 use Rattle.plain_service.specs.Setups.{Setup}
 use Rattle.script_lines.specs.declared.line.Line.{Line}
 use Rattle.script_lines.specs.declared.line.Line.TheVariants as line
+use Rattle.cluster_facts.specs.Lists.{without}
 use Rattle.cluster_facts.specs.Service.{Plain}
 use Rattle.cluster_facts.specs.History.{Hand, Empty, Waiting, Applied, Ready}
+use Rattle.cluster_events.specs.Lines.{is_ignored}
 use Rattle.cluster_events.specs.Outcomes.{Outcome}
 use Rattle.cluster_events.specs.Servers.{State}
 use Rattle.cluster_events.specs.Devices.{Device}
@@ -23,9 +25,9 @@ use Rattle.cluster_rounds.specs.Seen.{counters_of}
 use Rattle.cluster_lines.specs.Following.{IsInHand, IsScript}
 use Rattle.cluster_lines.specs.Lines.{is_own, shows_files}
 use Rattle.cluster_lines.specs.Playing.{LooksBy}
-use Rattle.group_servers.specs.GroupCounts.{CountsLine, UsesLine}
+use Rattle.group_servers.specs.GroupCounts.{CountsLine, UsesGroup, UsesLine}
 use Rattle.group_servers.specs.GroupLaws.{rests-answered}
-use Rattle.group_servers.specs.GroupUses.{dealt-same, spent-none, stood-later}
+use Rattle.group_servers.specs.GroupUses.{dealt-same, spent-none, stood-later, uses-printed}
 use Rattle.group_servers.specs.GroupKit.{group_ends, group_kit, group_script}
 
 shares : (plain : Plain) (shelf : Shelf) (device : Device) (next : Line) (state : State Peers) (outcome : Outcome (State Peers))
@@ -72,6 +74,17 @@ shown-counts line.Files device old new one two looks shown faults stops = record
 shown-counts (line.Cat name) device old new one two looks shown faults stops = record { looks = looks; faults = faults; stops = stops }
 shown-counts _ device old new one two looks shown faults stops = cc
 
+-- what `settle` counted is what its line counted
+settled-uses : (setup : Setup) (happened : ℕ → ℕ) (state : State Peers) (outcome : Outcome (State Peers)) (held left : DiskSeen)
+    → UsesGroup setup happened state.world.core.answered outcome.state.world.core.answered outcome.told (counters_of held) (counters_of left)
+    → UsesLine setup line.Settle happened state outcome held.files (counters_of held) (counters_of left)
+settled-uses setup happened state outcome held left uses = record {
+  caused = uses.caused;
+  later = uses.later;
+  felled = λ less. (refl, uses.felled less);
+  counts = uses.dealt;
+}
+
 pub group_follows : (n : ℕ) → IsScript (group_kit n) group_script
 group_follows n = record {
   shares = λ plain shelf device next state outcome seen shared stands armed happens. shares plain shelf device next state outcome happens;
@@ -80,12 +93,10 @@ group_follows n = record {
       absurd (settle-never plain (group plain device) (group_ends Stopped plain device) (λ now last stops. stops) state whole ends);
   in_hand = λ plain device state stands. in-hand (length state.world.core.answered) state.world.core.hand;
   told = λ setup next state seen shows stands tells. tells;
-  settled = λ setup happened state outcome held left uses. record {
-    caused = uses.caused;
-    later = uses.later;
-    felled = λ less. (refl, uses.felled less);
-    counts = uses.dealt;
-  };
+  settled = λ setup happened state outcome held left uses. settled-uses setup happened state outcome held left uses;
+  settle_halts = λ setup happened state end held left halts.
+      settled-uses setup happened state (record { state = end.state; told = without is_ignored end.told }) held left
+      (uses-printed setup happened state.world.core.answered end.state.world.core.answered end.told (counters_of held) (counters_of left) halts);
   settle_faults = λ setup happened state end held left faults. record {
     between = faults.between;
     before_it = faults.before_it;
