@@ -55,13 +55,13 @@ shows-start setup places = record {
   callbacks = refl;
 }
 
-files-start : (setup : Setup) (places : ℕ) (held left : Option Files) → CanBegin setup → HoldsNone held → left ≡ option_map (all_applied (calls_of_all (opening_of setup))) held → LeavesFiles setup (pair_start setup.start places) held left
+pub files-start : (setup : Setup) (places : ℕ) (held left : Option Files) → CanBegin setup → HoldsNone held → left ≡ option_map (all_applied (calls_of_all (opening_of setup))) held → LeavesFiles setup (pair_start setup.start places) held left
 files-start setup places None left begins none done = done
 files-start setup places (Some files) left begins none done =
     done ∙ ap Some (ap (all_applied (calls_of_all (opening_of setup))) none ∙ files-open setup begins)
 
 -- calls that are done leave a disk unarmed that was
-passed-unarmed : (count : ℕ) (before after : Tally) → after ≡ passed count before → before.armed ≡ None → after.armed ≡ None
+pub passed-unarmed : (count : ℕ) (before after : Tally) → after ≡ passed count before → before.armed ≡ None → after.armed ≡ None
 passed-unarmed count before after is unarmed = ap (λ (t : Tally). t.armed) is ∙ ap (lowered count) unarmed
 
 -- **the start was done**

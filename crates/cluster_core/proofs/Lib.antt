@@ -1,4 +1,4 @@
 pub mod TwoSeats
 mod EventSteps
-mod BeginSteps
-mod BeginSpelled
+pub mod BeginSteps
+pub mod BeginSpelled

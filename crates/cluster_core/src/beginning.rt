@@ -29,8 +29,8 @@ use stream_config::StreamAttrs;
 use stream_files::perform;
 use stream_layout::Deed;
 
-/// The attributes of the well-known streams.
-fn wells_of(
+/// The attributes of the well-known streams, as a cluster line has them. `Err` comes only for want of memory.
+pub fn wells_of(
     alloc: Global,
     alarm: &WellOptions,
     ntf: &WellOptions,
@@ -45,9 +45,9 @@ fn wells_of(
     Ok(wells)
 }
 
-/// The active server at the start, tied to the standby, and the deeds of the start. What it would send that one is left out, since
-/// it begins with the same.
-fn start_active(
+/// The active server at the start, tied to each standby, and the deeds of the start. What it would send these is left out, since they
+/// begin with the same. `Err` comes only for want of memory.
+pub fn start_active(
     alloc: Global,
     start: i64,
     queue: u32,
@@ -76,8 +76,8 @@ fn start_active(
     }
 }
 
-/// The standby at the start.
-fn start_standby(
+/// A standby at the start. `Err` comes only for want of memory.
+pub fn start_standby(
     alloc: Global,
     start: i64,
     queue: u32,
@@ -168,8 +168,8 @@ fn started(alloc: Global, line: &Line) -> Result<(World, Seq<Deed>), AllocError>
     }
 }
 
-/// Why the start was not done: nothing is printed.
-fn broken(alloc: Global, answer: DiskAnswer) -> EventAnswer
+/// Why a start was not done, by what the disk answered: nothing is printed.
+pub fn unbegun(alloc: Global, answer: DiskAnswer) -> EventAnswer
     ensures { result ≡ broken_by answer }
 {
     match answer {
@@ -221,7 +221,7 @@ impl World {
             }
             Err(answer) => {
                 mem::drop(world);
-                Err(broken(alloc, answer))
+                Err(unbegun(alloc, answer))
             }
         }
     }

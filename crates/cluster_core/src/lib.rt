@@ -7,4 +7,5 @@ mod parts;
 mod playable;
 mod world;
 
+pub use beginning::{start_active, start_standby, unbegun, wells_of};
 pub use world::World;

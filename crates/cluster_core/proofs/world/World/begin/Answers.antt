@@ -24,7 +24,7 @@ returns-clause-leaves g c setup places begins =
     let starts = c.in-Ok.ensures setup places begins in
     let failed = c.in-Err-perform.ensures in
     start-broken (Unit {0}) setup c.in-Err-perform.answer _ _ (g.D.SharedDisk.seen c.args.disk.now) (g.D.SharedDisk.seen c.perform.new.disk)
-    starts.1 c.broken.ensures c.requires.unarmed failed.cause failed.stop failed.performs
+    starts.1 c.unbegun.ensures c.requires.unarmed failed.cause failed.stop failed.performs
 
 pub returns-in-Err-clause-leaves : goal.returns-in-Err-clause-leaves
 returns-in-Err-clause-leaves g c setup places begins = unbegun-stands setup (g.D.SharedDisk.seen c.args.disk.now) c.requires.unarmed
