@@ -23,7 +23,7 @@ use Rattle.cluster_rounds.specs.Kits.{IsKit, Kit, device_by}
 use Rattle.cluster_rounds.specs.Scripts.{Script}
 use Rattle.cluster_rounds.specs.Worlds.{HasStateOn, IsGood, Shows, any_state}
 use Rattle.cluster_rounds.specs.Broken.{Broken, BreaksAlone}
-use Rattle.cluster_rounds.proofs.BrokenSteps.{broken-ends, left-between, shown-ends, whole-broken}
+use Rattle.cluster_rounds.proofs.BrokenSteps.{armed-shown, broken-ends, left-between, shown-ends, whole-broken}
 use Rattle.cluster_rounds.proofs.UnaskedSteps.{unasked-same}
 use Rattle.cluster_rounds.specs.Rounds.{EndsSettle}
 use Rattle.cluster_rounds.specs.Came.{ComesOff, Ended}
@@ -119,7 +119,8 @@ module _ {Peers Group : Type 0} (kit : Kit Peers Group) (laws : IsKit kit) (scri
   read-lacks one two beside read faults setup state world good shows =
       let nothing = unasked-same (plain_of setup) state.world in
       let left : kit.Tells setup state (kit.see one beside) → kit.Between setup (committed state.world.core) (kit.see one beside) (kit.see two beside) = λ tells. (left-between kit laws) setup state (kit.see one beside) (kit.see two beside) good (laws.read_left setup state one two beside read tells) in
-      ((whole-broken kit laws) setup state state [] (kit.see one beside) (kit.see two beside) world good.steady.sound nothing shows.net shows.agents shows.history shows.now left, laws.read_lacks setup state world.history.entries world.servers one two beside ((shown-ends kit laws) setup state world shows) read faults)
+      let armed : kit.Armed state.peers (kit.see one beside) → kit.ArmedAs world.servers (kit.see two beside) = λ is. (armed-shown kit laws) setup state (kit.see two beside) world shows (laws.read_armed state.peers one two beside read is) in
+      ((whole-broken kit laws) setup state state [] (kit.see one beside) (kit.see two beside) world good.steady.sound nothing shows.net shows.agents shows.history shows.now armed left, laws.read_lacks setup state world.history.entries world.servers one two beside ((shown-ends kit laws) setup state world shows) read faults)
 
   pub show-broken : {T : Type 0} (r : Result T DiskAnswer) (next : Line) (old : Cluster Group) (before after : List (List ℕ)) (one two beside : DiskSeen) → (FaultLeaves kit script) next old old before before (kit.see one beside) (kit.see two beside) → IsRead one two → RoseExactlyOn one.faults two.faults r Failed → (IsErrOf r Failed → after ≡ before) → (IsErrOf r Stopped → ⊥) → IfErr r (λ answer. (BreaksOff kit script) answer next old old before after (kit.see one beside) (kit.see two beside))
   show-broken (Ok x) next old before after one two beside leaves read cause stays never = tt

@@ -16,7 +16,7 @@ use Rattle.cluster_events.specs.Events.{post_again, reply_at, request_as, receip
 use Rattle.cluster_events.specs.Settling.{take_answer_by, take_answer, take_pushed}
 use Rattle.cluster_rounds.specs.declared.cluster.Cluster.{Cluster}
 use Rattle.cluster_rounds.specs.Kits.{IsKit, Kit, calm_servers, device_by}
-use Rattle.cluster_rounds.specs.Rounds.{answer_taken, heard_so, round_pushed}
+use Rattle.cluster_rounds.specs.Rounds.{answer_taken, heard_so, items_taken, round_pushed}
 use Rattle.cluster_rounds.specs.Worlds.{Event, HasStateOf, HasStateOn, IsGood, IsIdle, StandsIn, any_state, pushed}
 use Rattle.cluster_rounds.specs.Resting.{Rests}
 use Rattle.cluster_rounds.specs.Resting.Rests.{begun, moved, accepted}
@@ -117,6 +117,15 @@ module _ {Peers Group : Type 0} (kit : Kit Peers Group) (laws : IsKit kit) where
       let servers = calm_servers kit setup in
       let A : State Peers → Type 0 = λ now. kit.Armed now.peers seen in
       each-moved A (armed-moves seen) (take_pushed plain) (take_pushed-core plain) (plain.held state.world.core.answered) (push plain servers state).state (push_by-moved plain servers A (armed-moves seen) state.world.core.hand state armed)
+
+  pub pushed-keep : Keeps (pushed kit)
+  pushed-keep setup state seen armed =
+      push_by-moved (plain_of setup) (calm_servers kit setup) (λ now. kit.Armed now.peers seen) (armed-moves seen) state.world.core.hand state armed
+
+  pub items-keep : (items : List Message) → Keeps ((items_taken kit) items)
+  items-keep items setup state seen armed =
+      let plain = plain_of setup in
+      each-moved (λ now. kit.Armed now.peers seen) (armed-moves seen) (take_pushed plain) (take_pushed-core plain) items state armed
 
   -- and what the disks hold
   pub hear-told : (place : ℕ) (message : Message) (setup : Setup) (state : State Peers) (seen : kit.Seen) → kit.Tells setup state seen → kit.Tells setup (hear (plain_of setup) (calm_servers kit setup) place message state).state seen

@@ -29,7 +29,7 @@ use Rattle.cluster_rounds.specs.Broken.{Broken, BreaksAlone, BreaksAloneIf, IsFe
 use Rattle.cluster_rounds.specs.Delivered.{AllStandIn, HearsAll, again}
 use Rattle.cluster_rounds.specs.Kits.{IsKit, Kit}
 use Rattle.cluster_rounds.specs.Worlds.{StandsIn}
-use Rattle.cluster_rounds.proofs.ArmedSteps.{hear-told}
+use Rattle.cluster_rounds.proofs.ArmedSteps.{hear-keeps, hear-told}
 use Rattle.cluster_rounds.proofs.BrokenSteps.{event-broken, happened-broken, shown-broken, sound-fed, unasked-fed}
 use Rattle.cluster_rounds.proofs.ChainSteps.{again-goes, resent-by, resent-stand}
 use Rattle.cluster_rounds.proofs.RoundSteps.{All-at}
@@ -123,6 +123,12 @@ module _ {Peers Group : Type 0} (kit : Kit Peers Group) (laws : IsKit kit) where
       let last = (for_each ((again kit) setup) messages state).state in
       laws.left_same setup last seen (again-tells setup messages state seen tells)
 
+  -- and what tells of their armed counts
+  again-keeps : (setup : Setup) (messages : List Message) (state : State Peers) (seen : kit.Seen) → kit.Armed state.peers seen → kit.Armed (for_each ((again kit) setup) messages state).state.peers seen
+  again-keeps setup [] state seen armed = armed
+  again-keeps setup (message ∷ messages) state seen armed =
+      again-keeps setup messages ((again kit) setup message state).state seen ((hear-keeps kit laws) message setup state seen armed)
+
   -- between two of them
   pub hears-stop : (messages : List Message) (count : ℕ) (old now : Cluster Group) (before after : List (List ℕ)) → (HearsAll kit) (take count messages) old now before after → (BreaksAloneIf kit) (AllStandIn messages) old now
   hears-stop messages count old now before after hears held setup state good shows stand =
@@ -131,7 +137,7 @@ module _ {Peers Group : Type 0} (kit : Kit Peers Group) (laws : IsKit kit) where
       let first = hears setup state good shows all in
       let goes = (again-goes kit laws) setup front state good.steady all in
       let done = for_each ((again kit) setup) front state in
-      (happened-broken kit laws) setup state done.state done.told held held held now goes.carried (again-files setup front state held) ((shown-broken kit laws) setup done.state held now first.1 first.0)
+      (happened-broken kit laws) setup state done.state done.told held held held now goes.carried (again-keeps setup front state held) (again-files setup front state held) ((shown-broken kit laws) setup done.state held now first.1 first.0)
 
   -- within one
   pub hears-stop-within : (messages : List Message) (count : ℕ) (message : Message) (old now new : Cluster Group) (before after : List (List ℕ)) → count < length messages → message ≡ get_or messages count message → (HearsAll kit) (take count messages) old now before after → (BreaksAloneIf kit) (StandsIn message) now new → (BreaksAloneIf kit) (AllStandIn messages) old new
@@ -142,7 +148,7 @@ module _ {Peers Group : Type 0} (kit : Kit Peers Group) (laws : IsKit kit) where
       let goes = (again-goes kit laws) setup front state good.steady all in
       let done = for_each ((again kit) setup) front state in
       let stands = goes.stays.net message ((All-at kit laws) (λ m. Stands m (messages_in state.world.net)) count messages message stand within is) in
-      (happened-broken kit laws) setup state done.state done.told held held held new goes.carried (again-files setup front state held) (breaks held setup done.state first.1 first.0 stands)
+      (happened-broken kit laws) setup state done.state done.told held held held new goes.carried (again-keeps setup front state held) (again-files setup front state held) (breaks held setup done.state first.1 first.0 stands)
 
   -- what a client sends again
   pub resends-break : (client at : ℕ) (old new : Cluster Group) (agent : Seen) (messages : List Message) → StandsAt client at old.agents → agent ≡ get_or old.agents at agent → ((c places : ℕ) (a : Agent) → agent ≡ seen_of c places a → messages ≡ resent c a) → (BreaksAloneIf kit) (AllStandIn messages) old new → (BreaksAlone kit) old new

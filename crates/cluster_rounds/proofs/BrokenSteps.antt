@@ -66,6 +66,11 @@ module _ {Peers Group : Type 0} (kit : Kit Peers Group) (laws : IsKit kit) where
       let both = EndsIn-both past before (committed broken.rest.core) (committed-ends past state.world.core.hand) (seconds (entries_told broken.unseen), grown) in
       subst (λ (entries : List Entry). EndsIn entries past) (sym broken.history) both
 
+  -- the servers of the code are armed as the disks' counts are
+  pub armed-shown : (setup : Setup) (state : State Peers) (seen : kit.Seen) (world : Cluster Group) → (Shows kit) setup state world → kit.Armed state.peers seen → kit.ArmedAs world.servers seen
+  armed-shown setup state seen world shows armed =
+      laws.armed_as setup state.world.core.answered state.world.core.hand state.peers world.servers seen shows.own armed
+
   -- What the disks hold, between.
 
   -- that of a whole state is
@@ -120,8 +125,8 @@ module _ {Peers Group : Type 0} (kit : Kit Peers Group) (laws : IsKit kit) where
       subst F (same client) (sound-fed plain new sound client)
 
   -- some whole events happened, and what was to come did not
-  pub whole-broken : (setup : Setup) (old new : State Peers) (told : List Told) (held left : kit.Seen) (world : Cluster Group) → IsSound (plain_of setup) new.world → SaysUnasked (plain_of setup) old.world new.world told → AreSpelled new.world.net world.net → ShowsAgents new.world world.agents → world.history.entries ≡ committed new.world.core → world.now ≡ new.world.now → (kit.Tells setup old held → kit.Between setup (committed new.world.core) held left) → (Broken kit) setup old held left world
-  whole-broken setup old new told held left world sound says net agents history now files = record {
+  pub whole-broken : (setup : Setup) (old new : State Peers) (told : List Told) (held left : kit.Seen) (world : Cluster Group) → IsSound (plain_of setup) new.world → SaysUnasked (plain_of setup) old.world new.world told → AreSpelled new.world.net world.net → ShowsAgents new.world world.agents → world.history.entries ≡ committed new.world.core → world.now ≡ new.world.now → (kit.Armed old.peers held → kit.ArmedAs world.servers left) → (kit.Tells setup old held → kit.Between setup (committed new.world.core) held left) → (Broken kit) setup old held left world
+  whole-broken setup old new told held left world sound says net agents history now armed files = record {
     rest = new.world;
     unseen = told;
     tells = Says-tells (plain_of setup) old.world new.world told says.says;
@@ -135,16 +140,18 @@ module _ {Peers Group : Type 0} (kit : Kit Peers Group) (laws : IsKit kit) where
     agents = agents;
     history = history;
     now = now;
+    armed = armed;
     files = files;
   }
 
   -- nothing happened yet
-  pub nothing-broken : (setup : Setup) (state : State Peers) (held : kit.Seen) (world : Cluster Group) → (IsGood kit) setup state → AreSpelled state.world.net world.net → ShowsAgents state.world world.agents → world.history.entries ≡ committed state.world.core → world.now ≡ state.world.now → (Broken kit) setup state held held world
-  nothing-broken setup state held world good net agents history now =
-      whole-broken setup state state [] held held world good.steady.sound (unasked-same (plain_of setup) state.world) net agents history now (same-between setup state held good)
+  pub nothing-broken : (setup : Setup) (state : State Peers) (held : kit.Seen) (world : Cluster Group) → (IsGood kit) setup state → AreSpelled state.world.net world.net → ShowsAgents state.world world.agents → world.history.entries ≡ committed state.world.core → world.now ≡ state.world.now → (kit.Armed state.peers held → kit.ArmedAs world.servers held) → (Broken kit) setup state held held world
+  nothing-broken setup state held world good net agents history now armed =
+      whole-broken setup state state [] held held world good.steady.sound (unasked-same (plain_of setup) state.world) net agents history now armed (same-between setup state held good)
 
   pub shown-broken : (setup : Setup) (state : State Peers) (held : kit.Seen) (world : Cluster Group) → (IsGood kit) setup state → (Shows kit) setup state world → (Broken kit) setup state held held world
-  shown-broken setup state held world good shows = nothing-broken setup state held world good shows.net shows.agents shows.history shows.now
+  shown-broken setup state held world good shows =
+      nothing-broken setup state held world good shows.net shows.agents shows.history shows.now (armed-shown setup state held world shows)
 
   -- one event happened, and the next broke off
   pub files-after : (setup : Setup) (state middle : State Peers) (past : List Entry) (held told left : kit.Seen) → (kit.Tells setup state held → kit.Leaves setup middle held told) → (kit.Tells setup middle told → kit.Between setup past told left) → kit.Tells setup state held → kit.Between setup past held left
@@ -152,8 +159,8 @@ module _ {Peers Group : Type 0} (kit : Kit Peers Group) (laws : IsKit kit) where
       let leaves = first tells in
       laws.between_behind setup middle past held told left leaves (next (laws.left_told setup middle held told leaves))
 
-  pub happened-broken : (setup : Setup) (state middle : State Peers) (told : List Told) (held between left : kit.Seen) (world : Cluster Group) → SaysUnasked (plain_of setup) state.world middle.world told → (kit.Tells setup state held → kit.Leaves setup middle held between) → (Broken kit) setup middle between left world → (Broken kit) setup state held left world
-  happened-broken setup state middle told held between left world says files broken = record {
+  pub happened-broken : (setup : Setup) (state middle : State Peers) (told : List Told) (held between left : kit.Seen) (world : Cluster Group) → SaysUnasked (plain_of setup) state.world middle.world told → (kit.Armed state.peers held → kit.Armed middle.peers between) → (kit.Tells setup state held → kit.Leaves setup middle held between) → (Broken kit) setup middle between left world → (Broken kit) setup state held left world
+  happened-broken setup state middle told held between left world says kept files broken = record {
     rest = broken.rest;
     unseen = broken.unseen ++ told;
     tells = Tells-both (plain_of setup) state.world middle.world broken.rest told broken.unseen (Says-tells (plain_of setup) state.world middle.world told says.says) broken.tells;
@@ -167,6 +174,7 @@ module _ {Peers Group : Type 0} (kit : Kit Peers Group) (laws : IsKit kit) where
     agents = broken.agents;
     history = broken.history;
     now = broken.now;
+    armed = λ armed. broken.armed (kept armed);
     files = files-after setup state middle (committed broken.rest.core) held between left files broken.files;
   }
 
@@ -232,6 +240,7 @@ module _ {Peers Group : Type 0} (kit : Kit Peers Group) (laws : IsKit kit) where
         agents = agents-as of_agents.state rest agents (sym agents_are.same.places) refl refl seen;
         history = shows.history;
         now = shows.now;
+        armed = armed-shown setup state held old shows;
         files = same-between setup state held good;
       }
 

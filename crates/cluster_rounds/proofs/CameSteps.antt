@@ -126,12 +126,12 @@ module _ {Peers Group : Type 0} (kit : Kit Peers Group) (laws : IsKit kit) where
       (broken, laws.lacks_same setup state new.history.entries new.servers disk ((broken-ends kit laws) setup state disk disk new broken))
 
   -- what is played alone, and then memory runs out
-  pub plays-lack : (P Q : State Peers → Type 0) (event : (Event kit)) (old middle new : Cluster Group) (before between : List (List ℕ)) (loud : Bool) → Leads P Q event → (Plays kit) P event old middle before between loud → (BreaksAloneIf kit) Q middle new → (BreaksAloneIf kit) P old new
-  plays-lack P Q event old middle new before between loud leads plays breaks held setup state good shows so =
+  pub plays-lack : (P Q : State Peers → Type 0) (event : (Event kit)) (old middle new : Cluster Group) (before between : List (List ℕ)) (loud : Bool) → Leads P Q event → (Keeps kit laws) event → (Plays kit) P event old middle before between loud → (BreaksAloneIf kit) Q middle new → (BreaksAloneIf kit) P old new
+  plays-lack P Q event old middle new before between loud leads keeps plays breaks held setup state good shows so =
       let outcome = event setup state in
       let played = plays held setup state good shows so in
       let next = leads setup state good so in
-      (happened-broken kit laws) setup state outcome.state outcome.told held held held new next.1 played.files (breaks held setup outcome.state played.good played.shows next.0)
+      (happened-broken kit laws) setup state outcome.state outcome.told held held held new next.1 (keeps setup state held) played.files (breaks held setup outcome.state played.good played.shows next.0)
 
   -- what follows an event ends, and so both
   abbrev pub EndsBy : (P : State Peers → Type 0) → (EventOver kit) → (Inner Outer : (EndOver kit)) → Type 0
@@ -145,7 +145,7 @@ module _ {Peers Group : Type 0} (kit : Kit Peers Group) (laws : IsKit kit) where
       let came = comes setup state good shows counted so in
       let next = came-leads P Q first setup state middle before between a held told leads good so came in
       let broken = breaks setup came.outcome.state came.played.good came.played.shows came.count next.0 in
-      ((happened-broken kit laws) setup state came.outcome.state came.outcome.told held told left new next.1 came.played.files broken.0, laws.lacks_behind setup came.happened state came.outcome new.history.entries new.servers held told left came.uses broken.1)
+      ((happened-broken kit laws) setup state came.outcome.state came.outcome.told held told left new next.1 (λ armed. came.count) came.played.files broken.0, laws.lacks_behind setup came.happened state came.outcome new.history.entries new.servers held told left came.uses broken.1)
 
   ended-after : (P Q : State Peers → Type 0) (Inner Outer : (EndOver kit)) (first : (EventOver kit)) (old middle new : Cluster Group) (before between after : List (List ℕ)) (a : Bool) (held told left : kit.Seen) → EndsBy P first Inner Outer → LeadsBy P Q first → (Comes kit) P first old middle before between a held told → (ComesOff kit) Q Inner Failed middle new between after told left → (ComesOff kit) P Outer Failed old new before after held left
   ended-after P Q Inner Outer first old middle new before between after a held told left stops leads comes ends setup state good shows counted so =

@@ -111,7 +111,7 @@ module _ {Peers Group : Type 0} (kit : Kit Peers Group) (laws : IsKit kit) where
   settling-off Memory old now new before between after held told left settles off setup state good shows counted so =
       let so_far = settles setup state good shows counted in
       let broken = off setup so_far.state so_far.good so_far.shows so_far.count tt in
-      ((happened-broken kit laws) setup state so_far.state so_far.told held told left new (settling-says setup state now before between held told good so_far) so_far.files broken.0, laws.lacks_behind setup so_far.happened state (record { state = so_far.state; told = so_far.told }) new.history.entries new.servers held told left so_far.uses broken.1)
+      ((happened-broken kit laws) setup state so_far.state so_far.told held told left new (settling-says setup state now before between held told good so_far) (λ armed. so_far.count) so_far.files broken.0, laws.lacks_behind setup so_far.happened state (record { state = so_far.state; told = so_far.told }) new.history.entries new.servers held told left so_far.uses broken.1)
   settling-off Stopped old now new before between after held told left settles off setup state good shows counted so =
       let so_far = settles setup state good shows counted in
       let halted = off setup so_far.state so_far.good so_far.shows so_far.count tt in

@@ -31,8 +31,8 @@ use Rattle.cluster_rounds.specs.Resting.Rests.{begun}
 use Rattle.cluster_rounds.specs.PartlyDone.{SaysUnasked}
 use Rattle.cluster_rounds.specs.Rounds.{EndsClient, EndsClients, EndsDrain, EndsEach, EndsRound, EndsStep, EndsTurn, EndsTurns, EventOver, IsIdleWithAll, IsIdleWithItems, Plays, advances_by, answer_taken, client_by, clients_by, drain_by, each_by, heard_so, items_taken, round_by, round_pushed, turn_by, turns_by}
 use Rattle.cluster_rounds.specs.Worlds.{pushed, DoesIf, HasStateOn, IsGood, IsIdle, Pushes, Shows, StandsIn, any_state, heard_by}
-use Rattle.cluster_rounds.proofs.ArmedSteps.{hear-keeps, hear-rests, pushes-keep, pushes-rest, takes-keep, takes-rest}
-use Rattle.cluster_rounds.proofs.BrokenSteps.{happened-broken, left-between, whole-broken}
+use Rattle.cluster_rounds.proofs.ArmedSteps.{hear-keeps, hear-rests, pushed-keep, pushes-keep, pushes-rest, takes-keep, takes-rest}
+use Rattle.cluster_rounds.proofs.BrokenSteps.{armed-shown, happened-broken, left-between, whole-broken}
 use Rattle.cluster_rounds.proofs.CameSteps.{EndsBy, Follows, Joins, Leads, LeadsBy, alone-after, came-as, comes-after, off-after, off-as, on-after, plays-come}
 use Rattle.cluster_rounds.proofs.KitSteps.{at-steps, at-unasked, calm-serves, calm-unasked}
 use Rattle.cluster_rounds.proofs.RoundSteps.{All-at, at-rest, clients-go, drain-go, for_each-more, hear-go, hear-plays, items-go, played-nothing, push-go, pushed-items, pushed-plays, turns-go}
@@ -112,7 +112,7 @@ module _ {Peers Group : Type 0} (kit : Kit Peers Group) (laws : IsKit kit) where
       let after : List (List ℕ) = if b then [] ++ part else [] in
       let outcome = (heard_so kit) message setup state in
       let played = (hear-plays kit laws) message old new [] part after does refl held setup state good shows stands in
-      (whole-broken kit laws) setup state outcome.state outcome.told held held new played.good.steady.sound (hear-leads message setup state good stands).1 played.shows.net played.shows.agents played.shows.history played.shows.now (λ tells. (left-between kit laws) setup outcome.state held held played.good (played.files tells))
+      (whole-broken kit laws) setup state outcome.state outcome.told held held new played.good.steady.sound (hear-leads message setup state good stands).1 played.shows.net played.shows.agents played.shows.history played.shows.now (λ armed. (armed-shown kit laws) setup outcome.state held new played.shows ((hear-keeps kit laws) message setup state held armed)) (λ tells. (left-between kit laws) setup outcome.state held held played.good (played.files tells))
 
   -- Items.
 
@@ -121,7 +121,7 @@ module _ {Peers Group : Type 0} (kit : Kit Peers Group) (laws : IsKit kit) where
       let outcome = (pushed kit) setup state in
       let played = (pushed-plays kit laws) items old middle before between pushes held setup state good shows idle in
       let says = ((push-go kit laws) setup state ((at-rest kit laws) setup state good idle)).carried in
-      (happened-broken kit laws) setup state outcome.state outcome.told held held held new says played.files
+      (happened-broken kit laws) setup state outcome.state outcome.told held held held new says ((pushed-keep kit laws) setup state held) played.files
       (breaks held setup outcome.state played.good played.shows ((pushed-items kit laws) items setup state good idle (pushes setup state good shows idle).1))
 
   -- A drain.

@@ -44,7 +44,8 @@ module _ {Peers Group : Type 0} (kit : Kit Peers Group) where
   -- An event broke off for want of memory: from this state some of it happened, with lines that nobody sees. The history is legal;
   -- each client's calls in it are the first of those that it had sent before the event, and what came to it is of the time in force, or
   -- waited for the partner before the event; that time stays. Each client was fed the beginning of the items of subscriptions that it had
-  -- asked for before the event, each reply that it took is the history's, and the files are between.
+  -- asked for before the event, each reply that it took is the history's, and the files are between. The servers of the code are armed
+  -- as the disks' counts are, where they were before.
   pub record Broken (setup : Setup) (state : State Peers) (held left : kit.Seen) (world : Cluster Group) : Type 0 where
     pub rest : World
     pub unseen : List Told
@@ -61,6 +62,7 @@ module _ {Peers Group : Type 0} (kit : Kit Peers Group) where
     pub agents : ShowsAgents rest world.agents
     pub history : world.history.entries ≡ committed rest.core
     pub now : world.now ≡ rest.now
+    pub armed : kit.Armed state.peers held → kit.ArmedAs world.servers left
     pub files : kit.Tells setup state held → kit.Between setup (committed rest.core) held left
 
   -- so it is over each good state that the cluster stood for and of which P is so

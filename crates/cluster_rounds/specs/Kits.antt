@@ -40,6 +40,8 @@ pub record Kit (P S : Type 0) : Type 1 where
   pub files : Seen → Option Files
   -- what is kept tells of the disks' armed counts
   pub Armed : P → Seen → Type 0
+  -- servers of the code are armed as the disks' counts are
+  pub ArmedAs : S → Seen → Type 0
   -- the disks tell what they hold of a state; behind an event they tell what they hold then, where they told before; or, where an event
   -- broke off, something between
   pub Tells : Setup → State P → Seen → Type 0
@@ -73,13 +75,15 @@ pub record IsKit {P S : Type 0} (kit : Kit P S) : Type 0 where
   pub steps : (plain : Plain) (device : Device) → (kit.servers plain device).steps ≡ kit.steps
   -- each step of theirs keeps what holds, and says what happened
   pub stepped : (plain : Plain) (device : Device) → IsPlain plain → AreStepped plain (kit.servers plain device) kit.Good (SaysUnasked plain)
-  -- they accept alike whatever the device, leave what was answered, the armed count and what the disks hold, and their lines tell what
-  -- grew
+  -- they accept alike whatever the device, leave what was answered, the armed count, by which the servers of the code are armed, and
+  -- what the disks hold, and their lines tell what grew
   pub alike : (plain : Plain) (one other : Device) → (kit.servers plain one).accept ≡ (kit.servers plain other).accept
   pub keeps : (plain : Plain) (device : Device) (entry : Entry) (state : State P)
       → ((kit.servers plain device).accept entry state).state.world.core.answered ≡ state.world.core.answered
   pub armed : (plain : Plain) (device : Device) (entry : Entry) (state : State P) (seen : kit.Seen)
       → kit.Armed state.peers seen → kit.Armed ((kit.servers plain device).accept entry state).state.peers seen
+  pub armed_as : (setup : Setup) (past : List Entry) (hand : Hand) (peers : P) (servers : S) (seen : kit.Seen)
+      → kit.Own setup past hand peers servers → kit.Armed peers seen → kit.ArmedAs servers seen
   pub accepts : (setup : Setup) (fails : ℕ → ℕ) (entry : Entry) (state : State P) (seen : kit.Seen) → state.world.core.hand ≡ Empty
       → kit.Tells setup state seen → kit.Tells setup ((kit.servers (plain_of setup) (device_by setup fails)).accept entry state).state seen
   pub measured : (plain : Plain) (device : Device) (entry : Entry) (state : State P) → state.world.core.hand ≡ Empty → kit.Good state

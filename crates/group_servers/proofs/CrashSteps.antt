@@ -65,7 +65,7 @@ use Rattle.group_servers.proofs.DeliverSteps.{MayCome}
 use Rattle.group_servers.proofs.EndSteps.{ended-as}
 use Rattle.group_servers.proofs.FallLines.{takers-named, takers-wayless}
 use Rattle.group_servers.proofs.FallShows.{TellsCount}
-use Rattle.group_servers.proofs.FallSteps.{wayless-bare, caught-bare, fit-seats, few-of, few-standbys, count-some, tried, failed-are, took-own, took-lines, took-unarmed, took-files, plain-good, stale, fell-fell, fell-lines, fell-last, fell-calls, fell-files, all-tried, named-long}
+use Rattle.group_servers.proofs.FallSteps.{wayless-bare, caught-bare, fit-seats, few-of, few-standbys, count-some, tried, failed-are, took-own, took-lines, took-unarmed, took-files, plain-good, stale, fell-fell, fell-lines, fell-last, fell-calls, fell-files, all-tried, named-long, partly-armed}
 use Rattle.group_servers.proofs.GoodSteps.{answered-history, accepted-history}
 use Rattle.group_servers.proofs.GroupFiles.{rest-goes-on}
 use Rattle.group_servers.proofs.MadeSteps.{partly-made, partly-still, tries-made, tries-quiet, tries-still}
@@ -318,7 +318,7 @@ module _ (n : ℕ) where
         (whole-broken (group_kit n) (group_laws n)) setup state over.state over.told held left new (over-state setup state n good (λ number. 0)).steady.sound (over-says setup state n good (λ number. 0))
             (subst (λ m. AreSpelled state.world.net m) (sym net-is) shows.net)
             (subst (λ a. ShowsAgents over.state.world a) (sym agents-are) (agents-as state.world over.state.world old.agents refl refl refl shows.agents))
-            entries-are (now-is ∙ shows.now) (λ told. files-so told partly.part),
+            entries-are (now-is ∙ shows.now) (λ is. partly-armed fresh mid.servers.seats new.servers.armed held left partly) (λ told. files-so told partly.part),
         lacks-quiet setup past new.history.entries new.servers.armed (made-so partly.part).0 (counters_of held) (counters_of left) (subst (λ (entries : List Entry). EndsIn entries past) (sym entries-are) (committed-ends past (caught_hand catching_so hand))) ((made-so partly.part).1 ∙ ap (λ (t : Tally). many_more (made-so partly.part).0 t.changing) partly.started.tally) ((quiet-so partly.part).0 ∙ partly.started.faults) ((quiet-so partly.part).1 ∙ partly.started.stops),
       ) where
         T : List Seat → Type 0

@@ -1,5 +1,5 @@
 -- What a takeover comes to by the definitions: the servers, the lines, the files and the counts.
-use Rattle.std.proofs.Common.{◌≡◌, ℕ, zero, suc, ◌+◌, ◌≤◌, ◌⊎◌, inl, inr, Bool, true, false, ◌||◌, if◌then◌else◌, Option, Some, None, option_map, List, [], ◌∷◌, ◌++◌, length, refl, ap, sym, ◌∙◌, subst, arith, le_refl, le_trans, append_assoc}
+use Rattle.std.proofs.Common.{◌≡◌, ℕ, zero, suc, ◌+◌, ◌≤◌, ◌⊎◌, inl, inr, Bool, true, false, ◌||◌, if◌then◌else◌, is_some, Option, Some, None, option_map, List, [], ◌∷◌, ◌++◌, length, refl, ap, sym, ◌∙◌, subst, arith, le_refl, le_trans, append_assoc}
 use Rattle.std.specs.List.{AllByRecursion}
 use Rattle.ais_values.specs.Causes.{Rose}
 use Rattle.disk_model.specs.Counts.{lowered}
@@ -36,7 +36,7 @@ use Rattle.group_servers.specs.declared.group.Seat.{Seat}
 use Rattle.group_servers.specs.declared.group.Group.{Group}
 use Rattle.group_servers.specs.Caught.{CanCatch, CanCatchBy, Catches, AllCatch}
 use Rattle.group_servers.specs.Delivered.{CanTake, CanTakeBy}
-use Rattle.group_servers.specs.Falls.{all_wayless, wayless, IsFitNode, IsFitSeat, TookOver, AllFell, Exchanges}
+use Rattle.group_servers.specs.Falls.{all_wayless, wayless, IsFitNode, IsFitSeat, TookOver, AllFell, FellPartly, Exchanges}
 use Rattle.group_servers.specs.Followed.{IsGoodGroup, GoesOnFrom, row_calls}
 use Rattle.group_servers.specs.GroupKit.{FellGroup, group_kit}
 use Rattle.group_servers.specs.GroupNodes.{node_by, standby_by, seat_by, seats_by, bare_by, bare, servers_by}
@@ -125,6 +125,16 @@ pub partly-unarmed : (fresh : Bool) (seats : List Seat) (start left : DiskSeen) 
 partly-unarmed fresh seats start left unarmed (passes_by seat not rest) = partly-unarmed fresh _ start left unarmed rest
 partly-unarmed fresh seats start left unarmed (fails_first {mid = mid} seat fallen it one rest) = partly-unarmed fresh _ mid left one.3 rest
 partly-unarmed fresh seats start left unarmed (lacks seat it one) = ap (λ (t : Tally). t.armed) one.3 ∙ ap (lowered one.0) unarmed
+
+-- where memory was wanting as one took over, no server is armed, and no count is left on the disk
+pub partly-armed : (fresh : Bool) (seats : List Seat) (armed : Bool) (held left : DiskSeen) → FellPartly fresh seats armed held left → armed ≡ is_some left.tally.armed
+partly-armed fresh seats armed held left partly = partly.unarmed ∙ ap is_some (sym none)
+  where
+    none : left.tally.armed ≡ None
+    none = elim partly.part [
+      | inl part ↦ partly-unarmed fresh (all_wayless seats) partly.start left partly.started.armed part
+      | inr over ↦ tries-unarmed fresh (all_wayless seats) over.0 (Some over.1) partly.start left partly.started.armed over.2
+    ]
 
 -- the last fault of those that all failed, and those before it
 pub record LastFell (count : ℕ) (start left : DiskSeen) : Type 0 where

@@ -1,7 +1,7 @@
 -- What a message that the active server heard posts, and what hearing leaves where memory runs out.
 use Rattle.std.proofs.Common.{◌≡◌, ℕ, zero, suc, ◌<◌, ◌⊎◌, inl, inr, Bool, true, false, ℤ, Option, None, Some, List, [], ◌∷◌, length, take, refl, ap, sym, ◌∙◌, subst, arith}
 use Rattle.std.specs.List.{AllByRecursion}
-use Rattle.std.specs.Prelude.{Result, Ok, Err, IsOk, OnErr}
+use Rattle.std.specs.Prelude.{Result, Ok, Err, IsOk, OnErr, is_some}
 use Rattle.disk_model.specs.Seen.{DiskSeen}
 use Rattle.calls.specs.History.{Pushed}
 use mir.Syntax.{w64}
@@ -40,7 +40,7 @@ use Rattle.cluster_rounds.specs.Broken.{Broken, BreaksAlone}
 use Rattle.cluster_rounds.proofs.BrokenClients.{same-breaks}
 use Rattle.cluster_rounds.specs.Kits.{calm_servers}
 use Rattle.cluster_rounds.specs.Worlds.{Shows, IsGood, HasState}
-use Rattle.cluster_rounds.proofs.BrokenSteps.{same-between, whole-broken, nothing-broken}
+use Rattle.cluster_rounds.proofs.BrokenSteps.{armed-shown, same-between, whole-broken, nothing-broken}
 use Rattle.group_servers.specs.declared.group.Group.{Group}
 use Rattle.group_servers.specs.declared.group.Seat.{Seat}
 use Rattle.group_servers.specs.GroupKit.{group_kit}
@@ -172,9 +172,12 @@ module _ (n : ℕ) where
     abbrev Breaks : Type 0
     Breaks = (Broken (group_kit n)) setup state held held (left_as n old active seats net history)
 
+    armed-so : held.tally.armed ≡ state.peers.armed → old.servers.armed ≡ is_some held.tally.armed
+    armed-so = (armed-shown (group_kit n) (group_laws n)) setup state held old shows
+
     quiet-breaks : PostsSome [] old.net net → Breaks
     quiet-breaks posts =
-        (nothing-broken (group_kit n) (group_laws n)) setup state held (left_as n old active seats net history) good (posts-none setup state.world.net old.net net posts shows.net) shows.agents (same ∙ shows.history) shows.now
+        (nothing-broken (group_kit n) (group_laws n)) setup state held (left_as n old active seats net history) good (posts-none setup state.world.net old.net net posts shows.net) shows.agents (same ∙ shows.history) shows.now armed-so
 
     abbrev Posts : Heard → Type 0
     Posts heard = PostsSome heard.to_net old.net net
@@ -184,10 +187,10 @@ module _ (n : ℕ) where
         let after = in_world (post (plain_of setup) message) state in
         let known = same ∙ shows.history in
         elim (posts-one setup message state.world.net old.net net posts shows.net) [
-          | inl spelled ↦ (nothing-broken (group_kit n) (group_laws n)) setup state held (left_as n old active seats net history) good spelled shows.agents known shows.now
+          | inl spelled ↦ (nothing-broken (group_kit n) (group_laws n)) setup state held (left_as n old active seats net history) good spelled shows.agents known shows.now armed-so
           | inr spelled ↦ (whole-broken (group_kit n) (group_laws n)) setup state after.state after.told held held (left_as n old active seats net history) goes.holds.sound goes.carried spelled
               (agents-as state.world after.state.world old.agents refl refl refl shows.agents)
-              known shows.now ((same-between (group_kit n) (group_laws n)) setup state held good)
+              known shows.now armed-so ((same-between (group_kit n) (group_laws n)) setup state held good)
         ]
 
     abbrev servers : Servers Peers
@@ -230,12 +233,13 @@ module _ (n : ℕ) where
       hears-break-by setup state state.world.core.hand old active seats net history heard place message held active good shows stands hears posts same
 
   -- **nothing but servers and lines changed, and room for an entry was taken**
-  pub untold-breaks : (setup : Setup) (state : State Peers) (held : DiskSeen) (old new : Cluster (Group n)) → IsGood (group_kit n) setup state → Shows (group_kit n) setup state old → new.net ≡ old.net → new.agents ≡ old.agents → new.history.entries ≡ old.history.entries → new.now ≡ old.now → (Broken (group_kit n)) setup state held held new
-  untold-breaks setup state held old new good shows net agents history now =
+  pub untold-breaks : (setup : Setup) (state : State Peers) (held : DiskSeen) (old new : Cluster (Group n)) → IsGood (group_kit n) setup state → Shows (group_kit n) setup state old → new.net ≡ old.net → new.agents ≡ old.agents → new.history.entries ≡ old.history.entries → new.now ≡ old.now → new.servers.armed ≡ old.servers.armed → (Broken (group_kit n)) setup state held held new
+  untold-breaks setup state held old new good shows net agents history now armed =
       (nothing-broken (group_kit n) (group_laws n)) setup state held new good
       (subst (λ n. AreSpelled state.world.net n) (sym net) shows.net)
       (subst (λ a. ShowsAgents state.world a) (sym agents) shows.agents)
       (history ∙ shows.history) (now ∙ shows.now)
+      (λ is. armed ∙ (armed-shown (group_kit n) (group_laws n)) setup state held old shows is)
 
   -- nothing changed
   pub same-untold : (old new : Cluster (Group n)) → new ≡ old → BreaksAlone (group_kit n) old new
@@ -266,7 +270,7 @@ module _ (n : ℕ) where
   -- **or within it**
   pub partly-breaks : (setup : Setup) (state : State Peers) (old : Cluster (Group n)) (active : Node) (net : List (List ℕ)) (history : Pushed) (place : ℕ) (message : Message) (held : DiskSeen) → HasState (group_kit n) old → IsGood (group_kit n) setup state → Shows (group_kit n) setup state old → Stands message (messages_in state.world.net) → HearsPartly message (to_z w64 (of_z w64 old.now)) old.servers.active active old.net net old.history.entries history.entries → (Broken (group_kit n)) setup state held held (left_as n old active old.servers.seats net history)
   partly-breaks setup state old active net history place message held has good shows stands partly = elim partly.part [
-    | inl none ↦ untold-breaks setup state held old (left_as n old active old.servers.seats net history) good shows none.1 refl partly.history refl
+    | inl none ↦ untold-breaks setup state held old (left_as n old active old.servers.seats net history) good shows none.1 refl partly.history refl refl
     | inr some ↦
         hears-break setup state old active old.servers.seats net history some.0 place message held good shows stands (heard-then n old message some.0 active has some.1) some.2 partly.history
   ]

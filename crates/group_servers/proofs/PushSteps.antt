@@ -28,7 +28,7 @@ use Rattle.cluster_rounds.specs.Broken.{Broken}
 use Rattle.cluster_rounds.specs.Kits.{calm_servers}
 use Rattle.cluster_rounds.specs.PartlyDone.{SaysUnasked}
 use Rattle.cluster_rounds.specs.Worlds.{Shows, IsGood, IsIdle, HasStateOf, Happened, pushed}
-use Rattle.cluster_rounds.proofs.BrokenSteps.{nothing-broken, same-between, whole-broken}
+use Rattle.cluster_rounds.proofs.BrokenSteps.{armed-shown, nothing-broken, same-between, whole-broken}
 use Rattle.cluster_rounds.proofs.KitSteps.{calm-serves, calm-unasked}
 use Rattle.group_servers.specs.declared.group.Group.{Group}
 use Rattle.group_servers.specs.GroupKit.{group_kit}
@@ -136,11 +136,11 @@ module _ (n : ℕ) where
       let other = record state.world { net = posted_all plain front state.world.net } in
       (whole-broken (group_kit n) (group_laws n)) setup state (record { world = other; peers = state.peers }) (lines_all plain front state.world.net) held held (record old { net = net }) (subst S same goes.holds.steady).sound (subst T same goes.carried) done.1
       (agents-as state.world other old.agents refl refl refl shows.agents)
-      shows.history shows.now ((same-between (group_kit n) (group_laws n)) setup state held good)
+      shows.history shows.now ((armed-shown (group_kit n) (group_laws n)) setup state held old shows) ((same-between (group_kit n) (group_laws n)) setup state held good)
 
   -- **and one that broke off**
   pub push-partly : (setup : Setup) (state : State Peers) (old : Cluster (Group n)) (net : List (List ℕ)) (held : DiskSeen) → IsGood (group_kit n) setup state → Shows (group_kit n) setup state old → IsIdle state → PushesPartly old.servers.active.replica old.net net → (Broken (group_kit n)) setup state held held (record old { net = net })
   push-partly setup state old net held good shows idle partly = elim partly [
-    | inl same ↦ (nothing-broken (group_kit n) (group_laws n)) setup state held (record old { net = net }) good (subst (λ messages. AreSpelled state.world.net messages) (sym same) shows.net) shows.agents shows.history shows.now
+    | inl same ↦ (nothing-broken (group_kit n) (group_laws n)) setup state held (record old { net = net }) good (subst (λ messages. AreSpelled state.world.net messages) (sym same) shows.net) shows.agents shows.history shows.now ((armed-shown (group_kit n) (group_laws n)) setup state held old shows)
     | inr some ↦ push-breaks setup state old net some.0 held good shows idle some.1 some.2
   ]

@@ -46,7 +46,7 @@ use Rattle.group_servers.specs.Seats as code
 use Rattle.group_servers.specs.Steps.{grew, worked_by, EndsWork}
 use Rattle.group_servers.proofs.DealSteps.{Broke, alone-ending}
 use Rattle.group_servers.proofs.EndSteps.{ended-by, work-ends}
-use Rattle.group_servers.proofs.FallSteps.{wayless-bare, fit-seats}
+use Rattle.group_servers.proofs.FallSteps.{wayless-bare, fit-seats, partly-armed}
 use Rattle.group_servers.proofs.GoodSteps.{answered-history, accepted-history}
 use Rattle.group_servers.proofs.GroupFiles.{some-of, broke-within, stop-standby}
 use Rattle.group_servers.proofs.GroupSteps.{calls_for}
@@ -144,7 +144,7 @@ module _ (n : ℕ) where
       let now = group_at state.peers.seats (Ready other) state in
       let calls = owed-calls n setup now other old shows refl in
       let made = work-partly n setup state other old new fresh before after held mid left good shows count fresh_so standby (subst (λ c. Broke held.tally.armed c held mid) calls broke) part in
-      (lacks n setup now held left old (with_servers old new) good shows refl refl refl refl made.0, made.1)
+      (lacks n setup now held left old (with_servers old new) good shows refl refl refl refl (λ is. partly-armed fresh old.servers.seats new.armed mid left part) made.0, made.1)
   partly-by setup state Empty entry old new fresh before after held mid left is good shows count fresh_so standby broke part = cc
   partly-by setup state (Waiting other) entry old new fresh before after held mid left is good shows count fresh_so standby broke part = cc
   partly-by setup state (Applied other) entry old new fresh before after held mid left is good shows count fresh_so standby broke part = cc

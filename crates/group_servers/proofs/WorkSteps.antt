@@ -40,7 +40,7 @@ use Rattle.cluster_rounds.specs.Broken.{Broken, LeavesBetween}
 use Rattle.cluster_rounds.specs.Came.{Came, Comes, ComesOff}
 use Rattle.cluster_rounds.specs.Kits.{device_by}
 use Rattle.cluster_rounds.specs.Worlds.{Shows, IsGood, HasState, TellsFiles, LeavesFiles, any_state}
-use Rattle.cluster_rounds.proofs.BrokenSteps.{broken-between, left-between, shown-ends, whole-broken}
+use Rattle.cluster_rounds.proofs.BrokenSteps.{armed-shown, broken-between, left-between, shown-ends, whole-broken}
 use Rattle.cluster_rounds.proofs.UnaskedSteps.{unasked-same}
 use Rattle.cluster_rounds.specs.Seen.{counters_of}
 use Rattle.group_servers.specs.declared.group.Seat.{Seat}
@@ -131,13 +131,18 @@ module _ (n : ℕ) where
     count = count;
   }
 
+  -- the active server is armed as the disk's count is, however many calls do not reach it
+  armed-so : (setup : Setup) (state : State Peers) (calls : ℕ) (held left : DiskSeen) (old : Cluster (Group n)) → Shows (group_kit n) setup state old → left.tally.armed ≡ counts.lowered calls held.tally.armed → held.tally.armed ≡ state.peers.armed → old.servers.armed ≡ is_some left.tally.armed
+  armed-so setup state calls held left old shows tally is =
+      (armed-shown (group_kit n) (group_laws n)) setup state held old shows is ∙ armed-lowered held.tally.armed calls ∙ ap is_some (sym tally)
+
   -- **memory ran out**: nothing happened but to the disk, whose files are between
-  pub lacks : (setup : Setup) (state : State Peers) (held left : DiskSeen) (old world : Cluster (Group n)) → IsGood (group_kit n) setup state → Shows (group_kit n) setup state old → world.net ≡ old.net → world.agents ≡ old.agents → world.history.entries ≡ old.history.entries → world.now ≡ old.now → (TellsFiles setup state held.files → LeavesBetween setup (committed state.world.core) held.files left.files) → (Broken (group_kit n)) setup state held left world
-  lacks setup state held left old world good shown net agents history now files =
+  pub lacks : (setup : Setup) (state : State Peers) (held left : DiskSeen) (old world : Cluster (Group n)) → IsGood (group_kit n) setup state → Shows (group_kit n) setup state old → world.net ≡ old.net → world.agents ≡ old.agents → world.history.entries ≡ old.history.entries → world.now ≡ old.now → (held.tally.armed ≡ state.peers.armed → world.servers.armed ≡ is_some left.tally.armed) → (TellsFiles setup state held.files → LeavesBetween setup (committed state.world.core) held.files left.files) → (Broken (group_kit n)) setup state held left world
+  lacks setup state held left old world good shown net agents history now armed files =
       (whole-broken (group_kit n) (group_laws n)) setup state state [] held left world good.steady.sound (unasked-same (plain_of setup) state.world)
       (subst (λ m. AreSpelled state.world.net m) (sym net) shown.net)
       (subst (λ a. ShowsAgents state.world a) (sym agents) shown.agents)
-      (history ∙ shown.history) (now ∙ shown.now) files
+      (history ∙ shown.history) (now ∙ shown.now) armed files
 
   -- Where the deeds are done.
 
@@ -202,12 +207,13 @@ module _ (n : ℕ) where
       let whole = subst (λ c. BreaksOff (LeftOn Memory) c count held.files left.files) (owed-calls setup state found.entry old shows found.ready) broke in
       let C : Hand → Type 0 = λ hand. LeavesBetween setup (committed_by state.world.core.answered hand) held.files left.files in (
         lacks setup state held left old (record old { servers = record old.servers { active = node } }) good shows refl refl refl refl
+            (armed-so setup state count held left old shows (ap (λ (t : Tally). t.armed) tally))
             (λ tells. subst C (sym found.ready) ((broken-between (group_kit n) (group_laws n)) setup state found.entry Memory count held.files left.files whole tells)),
         lacks-quiet setup state.world.core.answered old.history.entries old.servers.armed (suc count) (counters_of held) (counters_of left) ((shown-ends (group_kit n) (group_laws n)) setup state old shows) (ap (λ (t : Tally). t.changing) tally) stands stops,
       )
 
-  untold-by : (setup : Setup) (state : State Peers) (hand : Hand) (entry : Entry) (old new : Cluster (Group n)) (heard : Heard) (node : Node) (held left : DiskSeen) → hand ≡ Ready entry → IsGood (group_kit n) setup (group_at state.peers.seats hand state) → Shows (group_kit n) setup (group_at state.peers.seats hand state) old → held.tally.armed ≡ state.peers.armed → IsWorked old.servers.active heard node → PostsSome heard.to_net old.net new.net → left.files ≡ option_map (all_applied (calls_of_all (deeds_in old.servers.active.replica.owed))) held.files → counts.IsShort (length (calls_of_all (deeds_in old.servers.active.replica.owed))) held.tally.armed → new.agents ≡ old.agents → new.history.entries ≡ old.history.entries → new.now ≡ old.now → (Broken (group_kit n)) setup (group_at state.peers.seats hand state) held left new
-  untold-by setup state (Ready other) entry old new heard node held left is good shows armed worked posts files short agents history now =
+  untold-by : (setup : Setup) (state : State Peers) (hand : Hand) (entry : Entry) (old new : Cluster (Group n)) (heard : Heard) (node : Node) (held left : DiskSeen) → hand ≡ Ready entry → IsGood (group_kit n) setup (group_at state.peers.seats hand state) → Shows (group_kit n) setup (group_at state.peers.seats hand state) old → held.tally.armed ≡ state.peers.armed → IsWorked old.servers.active heard node → PostsSome heard.to_net old.net new.net → left.files ≡ option_map (all_applied (calls_of_all (deeds_in old.servers.active.replica.owed))) held.files → counts.IsShort (length (calls_of_all (deeds_in old.servers.active.replica.owed))) held.tally.armed → new.agents ≡ old.agents → new.history.entries ≡ old.history.entries → new.now ≡ old.now → new.servers.armed ≡ is_some left.tally.armed → (Broken (group_kit n)) setup (group_at state.peers.seats hand state) held left new
+  untold-by setup state (Ready other) entry old new heard node held left is good shows armed worked posts files short agents history now counted =
       let past = state.world.core.answered in
       let before = group_at state.peers.seats (Ready other) state in
       let calls = owed-calls setup before other old shows refl in
@@ -224,19 +230,20 @@ module _ (n : ℕ) where
       in
       let seen = subst (λ a. ShowsAgents before.world a) (sym agents) shows.agents in
       elim (answer-breaks setup past other state.world.net old.net new.net owed shows.net) [
-        | inl spelled ↦ (whole-broken (group_kit n) (group_laws n)) setup before before [] held left new good.steady.sound (unasked-same (plain_of setup) before.world) spelled seen (history ∙ shows.history) (now ∙ shows.now) between
+        | inl spelled ↦ (whole-broken (group_kit n) (group_laws n)) setup before before [] held left new good.steady.sound (unasked-same (plain_of setup) before.world) spelled seen (history ∙ shows.history) (now ∙ shows.now) (λ same. counted) between
         | inr spelled ↦ (whole-broken (group_kit n) (group_laws n)) setup before after.state after.told held left new step.good.steady.sound step.unasked spelled
             (agents-as before.world after.state.world new.agents refl refl refl seen)
-            (history ∙ shows.history) (now ∙ shows.now) between
+            (history ∙ shows.history) (now ∙ shows.now) (λ same. counted) between
       ]
-  untold-by setup state Empty entry old new heard node held left is good shows armed worked posts files short agents history now = cc
-  untold-by setup state (Waiting other) entry old new heard node held left is good shows armed worked posts files short agents history now = cc
-  untold-by setup state (Applied other) entry old new heard node held left is good shows armed worked posts files short agents history now = cc
+  untold-by setup state Empty entry old new heard node held left is good shows armed worked posts files short agents history now counted = cc
+  untold-by setup state (Waiting other) entry old new heard node held left is good shows armed worked posts files short agents history now counted = cc
+  untold-by setup state (Applied other) entry old new heard node held left is good shows armed worked posts files short agents history now counted = cc
 
-  pub work-untold : (old new : Cluster (Group n)) (heard : Heard) (node : Node) (before after : List (List ℕ)) (held left : DiskSeen) → IsSome old.servers.active.replica.owed → old.servers.active.waits ≡ None → IsWorked old.servers.active heard node → PostsSome heard.to_net old.net new.net → left.files ≡ option_map (all_applied (calls_of_all (deeds_in old.servers.active.replica.owed))) held.files → counts.IsShort (length (calls_of_all (deeds_in old.servers.active.replica.owed))) held.tally.armed → left.tally ≡ counts.passed (length (calls_of_all (deeds_in old.servers.active.replica.owed))) held.tally → left.faults ≡ held.faults → left.stops ≡ held.stops → new.agents ≡ old.agents → new.history.entries ≡ old.history.entries → new.now ≡ old.now → ComesOff (group_kit n) any_state (EndsWork n) Memory old new before after held left
-  work-untold old new heard node before after held left some none worked posts files short tally stands stops agents history now setup state good shows armed so =
+  pub work-untold : (old new : Cluster (Group n)) (heard : Heard) (node : Node) (before after : List (List ℕ)) (held left : DiskSeen) → IsSome old.servers.active.replica.owed → old.servers.active.waits ≡ None → IsWorked old.servers.active heard node → PostsSome heard.to_net old.net new.net → left.files ≡ option_map (all_applied (calls_of_all (deeds_in old.servers.active.replica.owed))) held.files → counts.IsShort (length (calls_of_all (deeds_in old.servers.active.replica.owed))) held.tally.armed → left.tally ≡ counts.passed (length (calls_of_all (deeds_in old.servers.active.replica.owed))) held.tally → left.faults ≡ held.faults → left.stops ≡ held.stops → new.agents ≡ old.agents → new.history.entries ≡ old.history.entries → new.now ≡ old.now → new.servers.armed ≡ old.servers.armed → ComesOff (group_kit n) any_state (EndsWork n) Memory old new before after held left
+  work-untold old new heard node before after held left some none worked posts files short tally stands stops agents history now same setup state good shows armed so =
       let found = ready-for setup state old shows some none in (
-        untold-by setup state state.world.core.hand found.entry old new heard node held left found.ready good shows armed worked posts files short agents history now,
+        untold-by setup state state.world.core.hand found.entry old new heard node held left found.ready good shows armed worked posts files short agents history now
+            (same ∙ armed-so setup state (length (calls_of_all (deeds_in old.servers.active.replica.owed))) held left old shows (ap (λ (t : Tally). t.armed) tally) armed),
         lacks-quiet setup state.world.core.answered new.history.entries new.servers.armed (length (calls_of_all (deeds_in old.servers.active.replica.owed))) (counters_of held) (counters_of left) (subst (λ (entries : List Entry). EndsIn entries state.world.core.answered) (sym history) ((shown-ends (group_kit n) (group_laws n)) setup state old shows)) (ap (λ (t : Tally). t.changing) tally) stands stops,
       )
 

@@ -1,5 +1,5 @@
 -- Words of public clauses: an active server and others beside it, as the servers of a cluster.
-use Rattle.std.specs.Prelude.{◌≡◌, ℕ, ◌≤◌, false, Option, None}
+use Rattle.std.specs.Prelude.{◌≡◌, ℕ, ◌≤◌, false, is_some, Option, None}
 use Rattle.disk_model.specs.Seen.{DiskSeen}
 use Rattle.disk_model.specs.declared.answers.DiskAnswer.{DiskAnswer}
 use Rattle.disk_model.specs.declared.answers.DiskAnswer.TheVariants.{Failed}
@@ -49,6 +49,7 @@ group_kit n = record {
   see = λ disk beside. disk;
   files = λ seen. seen.files;
   Armed = λ peers seen. seen.tally.armed ≡ peers.armed;
+  ArmedAs = λ servers seen. servers.armed ≡ is_some seen.tally.armed;
   Tells = λ setup state seen. TellsFiles setup state seen.files;
   Leaves = λ setup state held left. LeavesFiles setup state held.files left.files;
   Between = λ setup past held left. LeavesBetween setup past held.files left.files;

@@ -1,5 +1,5 @@
 -- Servers beside an active one are such servers as a cluster may have.
-use Rattle.std.specs.Prelude.{◌≡◌, ℕ, suc, true, false, ◌||◌, if◌then◌else◌, List, [], ◌∷◌, length, IfSome}
+use Rattle.std.specs.Prelude.{◌≡◌, ℕ, suc, true, false, ◌||◌, if◌then◌else◌, is_some, List, [], ◌∷◌, length, IfSome}
 use Rattle.std.proofs.Common.{refl, ap, sym, subst, inl, inr, le_refl, le_trans, ◌∙◌}
 use Rattle.cluster_facts.specs.Types.{Entry, Called, Receipted, Answer}
 use Rattle.cluster_facts.specs.Messages.{Posting, Spelled, messages_in, sent_by}
@@ -35,6 +35,7 @@ use Rattle.plain_service.specs.Storing.{files_of}
 use Rattle.cluster_events.proofs.Devices.{rose-later}
 use Rattle.cluster_rounds.proofs.FilesSteps.{between-behind, left-between, left-both, left-same, left-told}
 use Rattle.cluster_rounds.specs.Seen.{counters_of}
+use Rattle.group_servers.specs.declared.group.Group.{Group}
 use Rattle.group_servers.specs.GroupKit.{group_kit}
 use Rattle.group_servers.specs.GroupUses.{faults-behind, lacks-behind, lacks-quiet, stood-later, uses-both, uses-none, uses-printed}
 
@@ -186,6 +187,7 @@ group_laws n = record {
   alike = λ plain one other. refl;
   keeps = λ plain device entry state. refl;
   armed = λ plain device entry state seen is. is;
+  armed_as = λ setup past hand peers servers seen own is. ap (λ (servers : Group n). servers.armed) own ∙ ap is_some (sym is);
   accepts = λ setup fails entry state seen empty tells. tells;
   measured = λ plain device entry state empty good. accept-measured entry state empty;
   moves = λ setup old new seen core peers tells. subst (λ (c : Core). IfSome seen.files (λ files. files ≡ files_of setup c.answered)) (sym core) tells;

@@ -21,12 +21,13 @@ use Rattle.group_servers.specs.GroupKit.{group_kit}
 abbrev pub grew : {S : Type 0} → Cluster S → Cluster S → Bool
 grew old new = nat_lt (length old.history.entries) (length new.history.entries)
 
--- net, agents, history and time are as they were, whatever the servers are
-pub record IsUntold {S : Type 0} (old new : Cluster S) : Type 0 where
+-- net, agents, history and time are as they were, whatever the servers are, and the active one is armed or not as it was
+pub record IsUntold {n : ℕ} (old new : Cluster (Group n)) : Type 0 where
   pub net : new.net ≡ old.net
   pub agents : new.agents ≡ old.agents
   pub history : new.history.entries ≡ old.history.entries
   pub now : new.now ≡ old.now
+  pub armed : new.servers.armed ≡ old.servers.armed
 
 module _ (n : ℕ) where
   -- the servers make a step, or they have none to make and nothing changes

@@ -4,6 +4,7 @@ use Rattle.wire.specs.declared.message.Message.{Message}
 use Rattle.cluster_rounds.proofs.rounds.take_items.Goals as goal
 use Rattle.cluster_rounds.specs.Rounds.{IsIdleWithItems, IsItem, Plays, item_taken, items_taken}
 use Rattle.cluster_rounds.specs.Worlds.{StandsIn}
+use Rattle.cluster_rounds.proofs.ArmedSteps.{items-keep}
 use Rattle.cluster_rounds.proofs.CameSteps.{plays-lack}
 use Rattle.cluster_rounds.proofs.RoundSteps.{item-plays, items-reach, loop-plays, stands-of, state-so}
 use Rattle.cluster_rounds.proofs.TurnSteps.{items-lead}
@@ -47,7 +48,7 @@ returns-in-Err-clause-err g c =
     let items = c.args.items.now in
     let index = c.loop-item.item-index in
     let one = c.item-item.result in
-    (plays-lack g.S.Serving.kit g.met.S.Serving.laws) (IsIdleWithItems items) (StandsIn one) ((items_taken g.S.Serving.kit) (take index items)) c.args.world.now c.loop-item.world c.take.new.world c.args.lines.now.items c.loop-item.lines.items c.loop-item.loud ((items-lead g.S.Serving.kit g.met.S.Serving.laws) items index one c.loop-item-test.true c.item-item.is) c.loop-item.invariant.0 c.in-Err.ensures.err
+    (plays-lack g.S.Serving.kit g.met.S.Serving.laws) (IsIdleWithItems items) (StandsIn one) ((items_taken g.S.Serving.kit) (take index items)) c.args.world.now c.loop-item.world c.take.new.world c.args.lines.now.items c.loop-item.lines.items c.loop-item.loud ((items-lead g.S.Serving.kit g.met.S.Serving.laws) items index one c.loop-item-test.true c.item-item.is) ((items-keep g.S.Serving.kit g.met.S.Serving.laws) (take index items)) c.loop-item.invariant.0 c.in-Err.ensures.err
 
 pub returns-clause-wild : goal.returns-clause-wild
 returns-clause-wild g c = λ disks seen wild so. c.loop-item.invariant.1 disks seen wild so

@@ -14,7 +14,7 @@ returns-in-Ok-clause-ok g c = λ lines setup state good shows.
     (done.outcome, done.is, done.happened)
 
 pub returns-in-Err-clause-err : goal.returns-in-Err-clause-err
-returns-in-Err-clause-err g c = λ held setup state good shows. untold-breaks g.row.N setup state held c.args.world.now _ good shows refl refl refl refl
+returns-in-Err-clause-err g c = λ held setup state good shows. untold-breaks g.row.N setup state held c.args.world.now _ good shows refl refl refl refl refl
 
 -- nothing is on the way back
 pub returns-then-not-any_back-clause-ok : goal.returns-then-not-any_back-clause-ok

@@ -40,5 +40,5 @@ returns-in-Err-clause-err g c =
     let untold = c.in-Err.ensures.err in
     let held = g.D.SharedDisk.seen c.args.disk.now in
     λ setup state good shows armed.
-    let broken = untold-breaks g.row.N setup state held old new good shows untold.net untold.agents untold.history untold.now in
+    let broken = untold-breaks g.row.N setup state held old new good shows untold.net untold.agents untold.history untold.now untold.armed in
     (broken, (group_laws g.row.N).lacks_same setup state new.history.entries new.servers held ((broken-ends (group_kit g.row.N) (group_laws g.row.N)) setup state held held new broken))

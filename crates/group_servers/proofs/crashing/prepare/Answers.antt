@@ -23,13 +23,13 @@ returns-clause-ok g c =
     }
 
 pub returns-in_err-reserve-clause-err : goal.returns-in_err-reserve-clause-err
-returns-in_err-reserve-clause-err g c = on-err c.from_residual.result (record { net = refl; agents = refl; history = c.in_err-reserve.ensures.entries; now = refl })
+returns-in_err-reserve-clause-err g c = on-err c.from_residual.result (record { net = refl; agents = refl; history = c.in_err-reserve.ensures.entries; now = refl; armed = refl })
 
 pub returns-in_err-catch_if-clause-err : goal.returns-in_err-catch_if-clause-err
-returns-in_err-catch_if-clause-err g c = on-err c.from_residual-in_err-catch_if.result (record { net = refl; agents = refl; history = c.in_ok-reserve.ensures.entries; now = refl })
+returns-in_err-catch_if-clause-err g c = on-err c.from_residual-in_err-catch_if.result (record { net = refl; agents = refl; history = c.in_ok-reserve.ensures.entries; now = refl; armed = refl })
 
 pub returns-in_err-put_caught-clause-err : goal.returns-in_err-put_caught-clause-err
-returns-in_err-put_caught-clause-err g c = on-err c.from_residual-in_err-put_caught.result (record { net = refl; agents = refl; history = c.in_ok-reserve.ensures.entries; now = refl })
+returns-in_err-put_caught-clause-err g c = on-err c.from_residual-in_err-put_caught.result (record { net = refl; agents = refl; history = c.in_ok-reserve.ensures.entries; now = refl; armed = refl })
 
 pub returns-in_err-put_ends-clause-err : goal.returns-in_err-put_ends-clause-err
-returns-in_err-put_ends-clause-err g c = on-err c.from_residual-in_err-put_ends.result (record { net = refl; agents = refl; history = c.in_ok-reserve.ensures.entries; now = refl })
+returns-in_err-put_ends-clause-err g c = on-err c.from_residual-in_err-put_ends.result (record { net = refl; agents = refl; history = c.in_ok-reserve.ensures.entries; now = refl; armed = refl })

@@ -41,8 +41,8 @@ returns-in-Ok-None-clause-ok g c =
 
 -- memory ran out
 pub returns-in-Err-clause-err : goal.returns-in-Err-clause-err
-returns-in-Err-clause-err g c = λ held setup state good shows. untold-breaks g.row.N setup state held c.args.world.now _ good shows refl refl refl refl
+returns-in-Err-clause-err g c = λ held setup state good shows. untold-breaks g.row.N setup state held c.args.world.now _ good shows refl refl refl refl refl
 
 pub returns-in-Err-commit_applied-clause-err : goal.returns-in-Err-commit_applied-clause-err
 returns-in-Err-commit_applied-clause-err g c = λ held setup state good shows.
-    untold-breaks g.row.N setup state held c.args.world.now _ good shows refl refl c.in-Err-commit_applied.ensures.err refl
+    untold-breaks g.row.N setup state held c.args.world.now _ good shows refl refl c.in-Err-commit_applied.ensures.err refl refl

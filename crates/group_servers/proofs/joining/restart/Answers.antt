@@ -13,7 +13,7 @@ join-requires g c = (search rules, (sym c.if-rests.ensures, c.requires.role))
 
 pub returns-then-rests-clause-err : goal.returns-then-rests-clause-err
 returns-then-rests-clause-err g c =
-    on_err_weaker c.join.result (λ untold held setup state good shows. untold-breaks g.row.N setup state held c.args.world.now c.join.new.world good shows untold.net untold.agents untold.history untold.now) c.join.ensures.err
+    on_err_weaker c.join.result (λ untold held setup state good shows. untold-breaks g.row.N setup state held c.args.world.now c.join.new.world good shows untold.net untold.agents untold.history untold.now untold.armed) c.join.ensures.err
 
 pub returns-clause-ok : goal.returns-clause-ok
 returns-clause-ok g c =

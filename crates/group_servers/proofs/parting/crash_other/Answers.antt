@@ -20,8 +20,8 @@ returns-in-Ok-clause-ok g c =
     parts g.row.N c.args.server old c.settle.new.active c.drop_at-lost.new.seats c.push_caught.new.history lost c.args.lines.now.items c.put_parted.new.lines.items c.requires.follows c.drop_at-lost.ensures c.settle.ensures entries lines
 
 pub returns-in-Err-clause-err : goal.returns-in-Err-clause-err
-returns-in-Err-clause-err g c = λ held setup state good shows. untold-breaks g.row.N setup state held c.args.world.now _ good shows refl refl c.in_ok-reserve.ensures.entries refl
+returns-in-Err-clause-err g c = λ held setup state good shows. untold-breaks g.row.N setup state held c.args.world.now _ good shows refl refl c.in_ok-reserve.ensures.entries refl refl
 
 pub returns-in_err-reserve-clause-err : goal.returns-in_err-reserve-clause-err
 returns-in_err-reserve-clause-err g c =
-    on-err c.from_residual.result (λ held setup state good shows. untold-breaks g.row.N setup state held c.args.world.now _ good shows refl refl c.in_err-reserve.ensures.entries refl)
+    on-err c.from_residual.result (λ held setup state good shows. untold-breaks g.row.N setup state held c.args.world.now _ good shows refl refl c.in_err-reserve.ensures.entries refl refl)

@@ -49,7 +49,7 @@ returns-in-Ok-tell_done-clause-ok g c =
 pub returns-in-Err-tell_done-clause-err : goal.returns-in-Err-tell_done-clause-err
 returns-in-Err-tell_done-clause-err g c =
     let done = c.in-Ok-work.ensures.done in
-    work-untold g.row.N c.args.world.now _ c.in-Ok-work.heard c.work.new.self c.args.lines.now.items c.tell_done.new.lines.items (g.D.SharedDisk.seen c.args.disk.now) (g.D.SharedDisk.seen c.work.new.disk) c.requires.hand c.requires.ready (record { heard_is = done.0; new_is = done.1 }) c.in-Err-tell_done.ensures.err c.in-Ok-work.ensures.performs.0 c.in-Ok-work.ensures.performs.1.0 c.in-Ok-work.ensures.performs.1.1 c.in-Ok-work.ensures.cause.stands c.in-Ok-work.ensures.stop.stands refl refl refl
+    work-untold g.row.N c.args.world.now _ c.in-Ok-work.heard c.work.new.self c.args.lines.now.items c.tell_done.new.lines.items (g.D.SharedDisk.seen c.args.disk.now) (g.D.SharedDisk.seen c.work.new.disk) c.requires.hand c.requires.ready (record { heard_is = done.0; new_is = done.1 }) c.in-Err-tell_done.ensures.err c.in-Ok-work.ensures.performs.0 c.in-Ok-work.ensures.performs.1.0 c.in-Ok-work.ensures.performs.1.1 c.in-Ok-work.ensures.cause.stands c.in-Ok-work.ensures.stop.stands refl refl refl refl
 
 -- memory ran out within the deeds
 pub returns-in-Err-Memory-clause-err : goal.returns-in-Err-Memory-clause-err
