@@ -38,7 +38,7 @@ use Rattle.cluster_core.specs.declared.world.World.{World}
 use Rattle.cluster_core.specs.Worlds.{IsGood, Shows, named, parts_of, seats_beside, unnamed}
 use Rattle.played_runs.specs.Games.{HasState}
 use Rattle.played_runs.specs.Games.{Broken, BreaksOn, Lacks}
-use Rattle.played_runs.specs.Views.{counters_of, files_alone}
+use Rattle.played_runs.specs.Views.{counters_of}
 use Rattle.cluster_core.specs.Playing.{IsEventLine}
 use Rattle.played_runs.specs.Games.{DoesEvent, EndsEvent, FaultLeaves}
 use Rattle.cluster_core.specs.Parts.{BreaksWhole, PlaysWhole, acting_as, acting_in, other_seat, whole_of}
@@ -141,7 +141,7 @@ does-event next old new before after lines held left none same whole setup state
 
 -- **what a line left the parts as it left the world as**
 
-parts-broken : (acting : Server) (setup : Setup) (state : State Peers) (held left : DiskSeen) (parts : Cluster (Group 2)) → (cluster.Broken (group_kit 2)) setup state held left parts → (cluster.Broken (group_kit 2)) setup state (files_alone held.files) (files_alone left.files) (parts_of acting (whole_of parts))
+parts-broken : (acting : Server) (setup : Setup) (state : State Peers) (held left : DiskSeen) (parts : Cluster (Group 2)) → (cluster.Broken (group_kit 2)) setup state held left parts → (cluster.Broken (group_kit 2)) setup state held left (parts_of acting (whole_of parts))
 parts-broken acting setup state held left parts broken = record {
   rest = broken.rest;
   unseen = broken.unseen;
@@ -156,6 +156,7 @@ parts-broken acting setup state held left parts broken = record {
   agents = broken.agents;
   history = broken.history;
   now = broken.now;
+  armed = broken.armed;
   files = broken.files;
 }
 
@@ -163,7 +164,7 @@ pub lacks-event : (next : Line) (old new : World) (before after : List (List ℕ
 lacks-event next old new before after held left whole setup state good shows armed =
     let parts = whole.0 in
     let broken = whole.2 setup state good (parts-show setup state old good shows) armed in
-    subst (λ (w : World). (Broken world_game) setup state held.files left.files w × (Lacks world_game) setup state held left w) (sym whole.1)
+    subst (λ (w : World). (Broken world_game) setup state held left w × (Lacks world_game) setup state held left w) (sym whole.1)
     (parts-broken state.peers.acting setup state held left parts broken.0, broken.1)
 
 -- no event of a state ends as the disk stops

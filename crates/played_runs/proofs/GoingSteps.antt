@@ -163,15 +163,15 @@ module _ {P L S W : Type 0} (game : Game P L S W) (is_game : IsGame game) where
     -- memory that was wanting in a line was wanting behind those before it
     pub line-lacks : (mid left : DiskSeen) (old new : W) (done : List L) (next : L) (others : List L) (front : List ℕ) → (going : (Going game) setup places held first mid old done front) → (text : List ℕ) → (LineLacks game) setup going.state mid left new text → (LacksBehind game) setup places held first left new (done ++ next ∷ others) (front ++ text)
     line-lacks mid left old new done next others front going text lacks =
-        let stand = going-stand mid old done front going in
-        let B : Option Files → Type 0 = λ one. (Broken game) setup going.state one left.files new in
+        let seen = going-seen mid old done front going in
+        let B : DiskSeen → Type 0 = λ one. (Broken game) setup going.state one left new in
         let S : DiskSeen → Type 0 = λ one. (Lacks game) setup going.state one left new in
         let Lacked : List ℕ → Type 0 = λ one. (LacksBehind game) setup places held first left new (done ++ next ∷ others) one in
         let whole : Lacked front =
         record {
           behind = record { done = done; next = next; rest = others; parts = refl; goes = going-goes mid old done front going };
-          broken = subst B stand lacks.1;
-          lacks = subst S (going-seen mid old done front going) lacks.2;
+          broken = subst B seen lacks.1;
+          lacks = subst S seen lacks.2;
         } in
         subst Lacked (sym (ap (λ (more : List ℕ). front ++ more) lacks.0 ∙ append-nil front)) whole
 

@@ -11,7 +11,7 @@ use Rattle.cluster_rounds.specs.Seen.{IsRead}
 use Rattle.played_runs.specs.declared.ending.Status8.{Status8}
 use Rattle.played_runs.specs.declared.ending.Status8.TheVariants.{Done, DiskFault, RootNotEmpty}
 use Rattle.played_runs.specs.Counts.{HasRisen}
-use Rattle.played_runs.specs.Edges.{Stage, after, before, disk_held, disk_left, first_count}
+use Rattle.played_runs.specs.Edges.{Stage, before, disk_held, disk_left, first_count}
 use Rattle.played_runs.specs.Games.{Broken, Game, Lacks, Shows, shows_files}
 use Rattle.played_runs.specs.Playing.{PlaysFront, StandsAt, seen_behind, text_of}
 use Rattle.played_runs.specs.Views.{FailedDeeds, HoldsNone, LackedDeeds, NamesFailed, counters_of, files_told, names_told}
@@ -96,6 +96,6 @@ pub data PlayLacks {P L S W K D : Type 0} (game : Game P L S W) (script : List L
   InEvent :
       (done : List L) (next : L) (rest : List L)
       (front : (PlaysFront game) (before scene.disk) (first_count scene) script done (next ∷ rest) text)
-      → (Broken game) front.setup front.goes.state (files_told front.goes.files (before scene.disk)) (after scene.disk) scene.world_after
+      → (Broken game) front.setup front.goes.state ((seen_behind game) front.goes) (disk_left scene) scene.world_after
       → (Lacks game) front.setup front.goes.state ((seen_behind game) front.goes) (disk_left scene) scene.world_after
       → PlayLacks game script scene text

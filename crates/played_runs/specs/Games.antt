@@ -20,7 +20,7 @@ use Rattle.cluster_rounds.specs.Broken as cluster
 use Rattle.cluster_rounds.specs.Seen.{IsRead}
 use Rattle.cluster_rounds.specs.Worlds as clusters
 use Rattle.cluster_rounds.specs.Worlds.{LeavesFiles, TellsFiles}
-use Rattle.played_runs.specs.Views.{FailedDeeds, LackedDeeds, behind_deeds, counters_of, files_alone}
+use Rattle.played_runs.specs.Views.{FailedDeeds, LackedDeeds, behind_deeds, counters_of}
 
 -- a world that is W in the code and plays the lines L, whose servers keep P beside the world of the definitions and are S in the code
 pub record Game (P L S W : Type 0) : Type 1 where
@@ -114,10 +114,9 @@ module _ {P L S W : Type 0} (game : Game P L S W) where
       → TellsFiles setup state held.files → EventDone setup state next lines held left new
 
   -- an event broke off for want of memory, and left the parts of the world so
-  abbrev pub Broken : Setup → State P → Option Files → Option Files → W → Type 0
+  abbrev pub Broken : Setup → State P → DiskSeen → DiskSeen → W → Type 0
   Broken setup state held left world =
-      (cluster.Broken game.kit) setup state (game.kit.see (files_alone held) none_seen) (game.kit.see (files_alone left) none_seen)
-      (game.parts state.peers world)
+      (cluster.Broken game.kit) setup state (game.kit.see held none_seen) (game.kit.see left none_seen) (game.parts state.peers world)
 
   -- and history, servers and disk are as that leaves them
   abbrev pub Lacks : Setup → State P → DiskSeen → DiskSeen → W → Type 0
@@ -128,7 +127,7 @@ module _ {P L S W : Type 0} (game : Game P L S W) where
   abbrev pub BreaksOn : W → W → DiskSeen → DiskSeen → Type 0
   BreaksOn old new held left =
       (setup : Setup) (state : State P) → IsGood setup state → Shows setup state old → IsArmedBy state held.tally.armed
-      → Broken setup state held.files left.files new × Lacks setup state held left new
+      → Broken setup state held left new × Lacks setup state held left new
 
   -- the disk had a fault that left no server active: over each good state that the world and the disk stood for the event ended there, and
   -- these lines were printed

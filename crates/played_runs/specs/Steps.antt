@@ -84,7 +84,7 @@ module _ {P L S W : Type 0} (game : Game P L S W) where
   -- memory was wanting as a line was played, before anything of it was written
   abbrev pub LineLacks : Setup → State P → DiskSeen → DiskSeen → W → List ℕ → Type 0
   LineLacks setup state held left world text =
-      (text ≡ []) × (Broken game) setup state held.files left.files world × (Lacks game) setup state held left world
+      (text ≡ []) × (Broken game) setup state held left world × (Lacks game) setup state held left world
 
   -- a line was played, over each good state that the world and the disk stood for
   abbrev pub PlaysLine : {K : Type 0} → L → DiskSeen → DiskSeen → W → W → Edge K (List ℕ) → Result Unit Status8 → Type 0
@@ -111,7 +111,7 @@ module _ {P L S W : Type 0} (game : Game P L S W) where
   pub record LacksBehind (setup : Setup) (places : ℕ) (held : Option Files) (first : Counters) (left : DiskSeen) (world : W) (events : List L)
       (front : List ℕ) : Type 0 where
     pub behind : BreaksBehind setup places held first events front
-    pub broken : (Broken game) setup behind.goes.state (files_told behind.goes.files held) left.files world
+    pub broken : (Broken game) setup behind.goes.state ((seen_behind game) behind.goes) left world
     pub lacks : (Lacks game) setup behind.goes.state ((seen_behind game) behind.goes) left world
 
   -- by a fault of the disk, which told the files of the events before and counted what they counted

@@ -11,9 +11,8 @@ use Rattle.cluster_facts.specs.World.{World}
 use Rattle.cluster_events.specs.Servers.{State}
 use Rattle.service_laws.specs.Telling.{TellSends, callbacks_of}
 use Rattle.played_runs.specs.Games.{Broken, Game}
-use Rattle.played_runs.specs.Playing.{PlaysFront}
+use Rattle.played_runs.specs.Playing.{PlaysFront, seen_behind}
 use Rattle.played_runs.specs.Promises.{Sentence}
-use Rattle.played_runs.specs.Views.{files_told}
 
 -- the callbacks that a client got of its subscription of this key, handed out or not, the first one first; each of an item came
 -- with its receipt, so none is left out
@@ -32,7 +31,7 @@ TellsOnce setup lines world told files = TellsEach setup world
 module _ {P L S W : Type 0} (game : Game P L S W) where
   -- the same where an event broke off, by the marks of the items that clients were fed
   abbrev pub TellsBroken :
-      (setup : Setup) (state : State P) (held left : Option Files) (world : W) → (Broken game) setup state held left world → Type 0
+      (setup : Setup) (state : State P) (held left : DiskSeen) (world : W) → (Broken game) setup state held left world → Type 0
   TellsBroken setup state held left world broken =
       (client key : ℕ)
       → TellSends setup broken.rest.core.answered client key (callbacks_of key (broken.fed client).marks (fed_of (broken.rest.agents client)))
@@ -42,5 +41,5 @@ module _ {P L S W : Type 0} (game : Game P L S W) where
   abbrev pub TellsAtWant : (held : Option Files) (left : DiskSeen) (world : W) → Type 0
   TellsAtWant held left world =
       (first : Counters) (script done rest : List L) (next : L) (text : List ℕ) (front : (PlaysFront game) held first script done (next ∷ rest) text)
-      (broken : (Broken game) front.setup front.goes.state (files_told front.goes.files held) left.files world)
-      → TellsBroken front.setup front.goes.state (files_told front.goes.files held) left.files world broken
+      (broken : (Broken game) front.setup front.goes.state ((seen_behind game) front.goes) left world)
+      → TellsBroken front.setup front.goes.state ((seen_behind game) front.goes) left world broken

@@ -3,15 +3,11 @@ use Rattle.std.specs.Prelude.{◌≡◌, ◌⊎◌, ℕ, suc, length, Option, No
 use Rattle.disk_model.specs.Counts.{Counters, asked, passed, read_more}
 use Rattle.disk_model.specs.DeviceCalls.{DoesFront, FailsAfter, LacksMemoryAfter}
 use Rattle.disk_model.specs.Disk.{Files, no_files}
-use Rattle.disk_model.specs.Seen.{DiskSeen, none_seen}
+use Rattle.disk_model.specs.Seen.{DiskSeen}
 use Rattle.stream_layout.specs.Deeds.{calls_of_all}
 use Rattle.plain_service.specs.Setups.{Setup}
 use Rattle.plain_service.specs.Storing.{opening_of}
 pub use Rattle.cluster_rounds.specs.Seen.{counters_of}
-
--- a disk of which its files alone are told
-abbrev pub files_alone : Option Files → DiskSeen
-files_alone files = record none_seen { files = files }
 
 -- a disk that tells these files and counted so
 abbrev pub seen_as : Option Files → Counters → DiskSeen
