@@ -15,7 +15,8 @@ ghost use Rattle.mirror.specs.Replicas.{HasService, HasRoom, down, started, numb
 ghost use Rattle.mirror.specs.Hearing.{CanHear};
 ghost use Rattle.mirror.specs.ByValue.{items_pushed};
 ghost use Rattle.mirror.specs.Working.{deeds_in, replies_in, worked};
-ghost use Rattle.mirror.specs.Pairing.{alone, joining, sent, IsJoinBegun, parted, worked_out, with_peer, deeds_kept, keeps_deeds, taken_over, confirmed, IsHeard, IsFollowed, IsReceived, IsNextEntry, CanApplyIn, CanReceive, Admits};
+ghost use Rattle.mirror.specs.Pairing.{alone, joining, sent, IsJoinBegun, parted, worked_out, with_peer, deeds_kept, keeps_deeds};
+ghost use Rattle.mirror.specs.Pairing.{taken_over, confirmed, IsHeard, IsFollowed, IsReceived, IsNextEntry, CanApplyIn, CanReceive, Admits};
 ghost use Rattle.mirror.specs.InsideNode.{state_in, IsOpen};
 
 use crate::hearing::ignore;
