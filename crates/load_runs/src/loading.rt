@@ -166,7 +166,8 @@ where
     E: Fn(&Line, &mut D, &mut World) -> Result<Seq<Seq<u8>>, EventAnswer>,
     requires gone { HasGone (D.seen disk.old) world.old }
     requires event { DoesLines world_game D.seen E.Fn event.now }
-    ensures passes { Passes (StoodUpTo D.seen) (first_lines ++ turns_lines seed count ++ closing_lines)
+    ensures passes { Passes (StoodUpTo D.seen)
+        (first_lines ++ turns_lines seed count ++ closing_lines)
         (D.seen disk.old) (D.seen disk.new) world.old world.new result }
     ensures counts { RisesPassing ((D.seen disk.old).faults, (D.seen disk.new).faults) result }
 {

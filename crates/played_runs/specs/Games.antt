@@ -121,7 +121,8 @@ module _ {P L S W : Type 0} (game : Game P L S W) where
   -- and history, servers and disk are as that leaves them
   abbrev pub Lacks : Setup → State P → DiskSeen → DiskSeen → W → Type 0
   Lacks setup state held left world =
-      game.kit.Lacks setup state (game.parts state.peers world).history.entries (game.parts state.peers world).servers (game.kit.see held none_seen) (game.kit.see left none_seen)
+      game.kit.Lacks setup state (game.parts state.peers world).history.entries (game.parts state.peers world).servers
+      (game.kit.see held none_seen) (game.kit.see left none_seen)
 
   -- so it is over each good state that the world and the disk stood for
   abbrev pub BreaksOn : W → W → DiskSeen → DiskSeen → Type 0

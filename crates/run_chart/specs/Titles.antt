@@ -1,5 +1,5 @@
 -- How a line stands in a picture: its number and its text, as a viewer shows them where the pointer rests. Words of public clauses.
-use Rattle.std.specs.Prelude.{ℕ, ◌+◌, ◌-◌, ◌/◌, ◌%◌, ◌==◌, nat_lt, List, ◌∷◌, [], ◌++◌, if◌then◌else◌, codes, decimal}
+use Rattle.std.specs.Prelude.{ℕ, ◌+◌, ◌/◌, ◌%◌, ◌==◌, nat_lt, List, ◌∷◌, [], ◌++◌, if◌then◌else◌, codes, decimal}
 use Rattle.std.specs.List.{flat_map}
 use Rattle.ais_values.specs.Texts.{hex_digit}
 

@@ -12,12 +12,11 @@ use Rattle.cluster_facts.specs.Types.{Entry}
 use Rattle.cluster_facts.specs.Service.{Plain}
 use Rattle.cluster_facts.specs.History.{committed_by}
 use Rattle.cluster_facts.specs.World.{World}
-use Rattle.cluster_events.specs.declared.lines.ServerRole.TheVariants as role
 use Rattle.cluster_events.specs.Devices.{Device}
 use Rattle.cluster_events.specs.Outcomes.{Outcome}
 use Rattle.cluster_events.specs.Running.{Shelf}
 use Rattle.cluster_events.specs.Servers.{State}
-use Rattle.group_cluster.specs.Seats.{Mark, Clear, Sent, Took, Stance, Out, Owed, Linking, Standby, Seat, Peers, IsGroup, any_seat, on_seats, role_of}
+use Rattle.group_cluster.specs.Seats.{Mark, Clear, Sent, Took, Stance, Out, Owed, Linking, Standby, Seat, Peers, IsGroup, any_seat, on_seats}
 use Rattle.group_cluster.specs.Falling.{capped, catches, caught_hand, caught_seats, count_fallen, crash, failing, felled, is_fresh, named, next_of, out_at, rejoined, taken_over, takes}
 use Rattle.group_cluster.specs.Running.{GroupHappens}
 use Rattle.group_cluster.proofs.Staying.{servers-stay-up}
