@@ -13,7 +13,7 @@ use Rattle.cluster_events.specs.Outcomes.{Outcome}
 use Rattle.cluster_events.specs.Servers.{State, or_else, advance}
 use Rattle.event_text.specs.Texts.{printed}
 use Rattle.mirror.specs.declared.state.NodeState.{NodeState as Node}
-use Rattle.group_cluster.specs.Seats.{Seat, Peers, Agree}
+use Rattle.group_cluster.specs.Seats.{Seat, Peers, Agree, count_seats, is_up}
 use Rattle.group_cluster.specs.Falling.{looked}
 use Rattle.group_cluster.specs.Group.{Turn, mirrored, confirmed, first_turn, step_by, mirror_group, ack_group, work_by, group}
 use Rattle.group_cluster.proofs.Seating.{AllSeats, Turned, AreRoles, IsTurning, is-turned, turned-all, mirrored-turns, confirmed-turns}
@@ -27,21 +27,23 @@ use Rattle.cluster_rounds.proofs.CameSteps.{came-as}
 use Rattle.cluster_rounds.proofs.FilesSteps.{files-same}
 use Rattle.cluster_rounds.specs.Seen.{counters_of}
 use Rattle.group_servers.specs.declared.group.Group.{Group}
-use Rattle.group_servers.specs.Deals.{Dealt}
+use Rattle.group_servers.specs.GroupCounts.{WorkedAll, count_up}
 use Rattle.group_servers.specs.GroupKit.{group_kit}
 use Rattle.group_servers.specs.GroupLaws.{group_laws}
 use Rattle.group_servers.specs.GroupNodes.{active_by}
-use Rattle.group_servers.specs.GroupUses.{dealt-same}
+use Rattle.group_servers.specs.GroupUses.{worked-same}
 use Rattle.group_servers.specs.Steps.{StepsBy, grew, worked_by, EndsWork}
 use Rattle.group_servers.proofs.EndSteps.{drain-ends}
 use Rattle.group_servers.proofs.GroupSteps.{IsStep, mirror-step, ack-step, mirror-comes, ack-comes, drain-works, line-works}
+use Rattle.group_servers.proofs.UpSteps.{KeepsUp, confirmed-up, mirrored-up, turned-up}
 use Rattle.group_servers.proofs.WorkSteps.{ready-for, step-came}
 
--- Messages between the servers leave the count and what was answered.
+-- Messages between the servers leave the count, what was answered, and how many are up.
 
 record Keeps (state : State Peers) (outcome : Outcome (State Peers)) : Type 0 where
   armed : outcome.state.peers.armed ≡ state.peers.armed
   answered : outcome.state.world.core.answered ≡ state.world.core.answered
+  up : count_up outcome.state ≡ count_up state
 
 abbrev or-own : {T : Type 0} → T → Option T → T
 or-own x None = x
@@ -57,6 +59,13 @@ turned-roles turn hand acting turns owns seats told is agree =
     let by : Turned turn owns seats told = subst I is (is-turned turn owns) in
     (turned-all hand acting turn turns by agree).roles
 
+-- and leave a server up that was
+turn-up : (turn : Turn) → KeepsUp turn → (owns seats : List Seat) (told : List Told) → first_turn turn owns ≡ Some (seats, told) → count_seats is_up seats ≡ count_seats is_up owns
+turn-up turn keeps owns seats told is =
+    let I : Option (List Seat × List Told) → Type 0 = elim [ None ↦ Unit {0} | Some t ↦ Turned turn owns t.0 t.1 ] in
+    let by : Turned turn owns seats told = subst I is (is-turned turn owns) in
+    turned-up turn keeps by
+
 module _ (n : ℕ) where
   -- what a step is that there is
   record IsOne (setup : Setup) (state : State Peers) (outcome : Outcome (State Peers)) : Type 0 where
@@ -70,7 +79,7 @@ module _ (n : ℕ) where
       let hand = state.world.core.hand in
       let made = looked turned.0 hand turned.1 state in
       let roles = turned-roles (mirrored past) hand state.peers.acting (mirrored-turns past hand) state.peers.seats turned.0 turned.1 is good.steady.good.agree in
-      let one : IsOne setup state made = record { step = mirror-step n setup state turned.0 turned.1 good roles is; keeps = record { armed = refl; answered = refl } } in
+      let one : IsOne setup state made = record { step = mirror-step n setup state turned.0 turned.1 good roles is; keeps = record { armed = refl; answered = refl; up = turn-up (mirrored past) (mirrored-up past) state.peers.seats turned.0 turned.1 is } } in
       subst (IsOne setup state) (some-is made outcome some) one
 
   ack-is : (setup : Setup) (state : State Peers) (outcome : Outcome (State Peers)) → IsGood (group_kit n) setup state → (found : Option (List Seat × List Told)) → first_turn confirmed state.peers.seats ≡ found → step_by found state ≡ Some outcome → IsOne setup state outcome
@@ -79,13 +88,13 @@ module _ (n : ℕ) where
       let hand = state.world.core.hand in
       let made = looked turned.0 hand turned.1 state in
       let roles = turned-roles confirmed hand state.peers.acting (confirmed-turns hand) state.peers.seats turned.0 turned.1 is good.steady.good.agree in
-      let one : IsOne setup state made = record { step = ack-step n setup state turned.0 turned.1 good roles is; keeps = record { armed = refl; answered = refl } } in
+      let one : IsOne setup state made = record { step = ack-step n setup state turned.0 turned.1 good roles is; keeps = record { armed = refl; answered = refl; up = turn-up confirmed confirmed-up state.peers.seats turned.0 turned.1 is } } in
       subst (IsOne setup state) (some-is made outcome some) one
 
   -- nothing was worked
-  kept-dealt : (setup : Setup) (state : State Peers) (outcome : Outcome (State Peers)) (disk : DiskSeen) → Keeps state outcome → Dealt (device_by setup (λ number. 0)) state.world.core.answered outcome.state.world.core.answered (counters_of disk) (counters_of disk)
+  kept-dealt : (setup : Setup) (state : State Peers) (outcome : Outcome (State Peers)) (disk : DiskSeen) → Keeps state outcome → WorkedAll (device_by setup (λ number. 0)) state outcome.state (counters_of disk) (counters_of disk)
   kept-dealt setup state outcome disk keeps =
-      dealt-same (device_by setup (λ number. 0)) state.world.core.answered outcome.state.world.core.answered (counters_of disk) keeps.answered
+      worked-same (device_by setup (λ number. 0)) state outcome.state (counters_of disk) keeps.answered keeps.up
 
   -- **a message on the way to a server**
   pub mirror-advances : (old new : Cluster (Group n)) (before after : List (List ℕ)) (disk : DiskSeen) → StepsBy n mirror_group true old new before after → Advances (group_kit n) true old new before after disk disk

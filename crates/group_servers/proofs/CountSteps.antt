@@ -23,7 +23,7 @@ module _ (n : ℕ) where
   off-counted (Ok x) Ends old new before after held left has done off = done
   off-counted (Err Memory) Ends old new before after held left has done off =
       let lacks = (off has.setup has.state has.good has.shows has.count tt).1 in
-      lacks-later has.setup has.state.world.core.answered new.history.entries new.servers.armed (counters_of held) (counters_of left) lacks
+      lacks-later has.setup has.state new.history.entries new.servers.armed (counters_of held) (counters_of left) lacks
   off-counted (Err Stopped) Ends old new before after held left has done off = (off has.setup has.state has.good has.shows has.count tt).uses.later
   off-counted (Err Failed) Ends old new before after held left has done off =
       let faults = (off has.setup has.state has.good has.shows has.count tt).faults in
@@ -37,7 +37,7 @@ module _ (n : ℕ) where
   crash-counted (Ok x) server old new before after held left has done off = done
   crash-counted (Err Memory) server old new before after held left has done off =
       let lacks = (off has.setup has.state has.good has.shows has.count).1 in
-      lacks-later has.setup has.state.world.core.answered new.history.entries new.servers.armed (counters_of held) (counters_of left) lacks
+      lacks-later has.setup has.state new.history.entries new.servers.armed (counters_of held) (counters_of left) lacks
   crash-counted (Err Stopped) server old new before after held left has done off =
       absurd (off has.setup has.state has.good has.shows has.count)
   crash-counted (Err Failed) server old new before after held left has done off =

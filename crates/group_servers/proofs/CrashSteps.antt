@@ -25,7 +25,7 @@ use Rattle.lead_server.specs.Parting.{waiting_in, waiting_lines}
 use Rattle.group_cluster.specs.Seats as defined
 use Rattle.group_cluster.specs.Seats.{Peers, any_seat, count_seats, is_named, names_of, same_server, is_standby}
 use Rattle.group_cluster.specs.Falling.{catches, caught, caught_seats, caught_hand, caught_lines, is_fresh, crash, crash_active, crash_by, takes, taken_over}
-use Rattle.group_cluster.specs.Ended.{HasCalls}
+use Rattle.group_cluster.specs.Ended.{HasCalls, ended}
 use Rattle.group_cluster.proofs.Crashing.{caught-standby as stands-caught}
 use Rattle.group_cluster.proofs.Seating.{any-none, apart-caught, any-on, names-caught, same-is}
 use Rattle.group_cluster.proofs.Sounding.{caught-accepts}
@@ -47,7 +47,7 @@ use Rattle.group_servers.specs.Caught.{CatchesIf, PutsCaught, taken_if}
 use Rattle.group_servers.specs.Deals.{fell_behind, total}
 use Rattle.group_servers.specs.Falls.{IsFitSeat, TookOver, AllFell, FellPartly, all_wayless}
 use Rattle.group_servers.specs.Followed.{row_calls}
-use Rattle.group_servers.specs.GroupCounts.{CountsCrash, CrashEnded, Crashed, FaultsLine, LacksGroup, fell_first, kept_calls, last_calls}
+use Rattle.group_servers.specs.GroupCounts.{CountsCrash, CrashEnded, Crashed, FaultsLine, LacksGroup, count_up, fell_first, kept_calls, last_calls}
 use Rattle.group_servers.specs.GroupKit.{group_kit, group_script}
 use Rattle.group_servers.specs.GroupLaws.{group_laws}
 use Rattle.group_servers.specs.GroupNodes.{active_by, waits_by, seats_by, bare}
@@ -65,7 +65,7 @@ use Rattle.group_servers.proofs.DeliverSteps.{MayCome}
 use Rattle.group_servers.proofs.EndSteps.{ended-as}
 use Rattle.group_servers.proofs.FallLines.{takers-named, takers-wayless}
 use Rattle.group_servers.proofs.FallShows.{TellsCount}
-use Rattle.group_servers.proofs.FallSteps.{wayless-bare, caught-bare, fit-seats, few-of, few-standbys, count-some, tried, failed-are, took-own, took-lines, took-unarmed, took-files, plain-good, stale, fell-fell, fell-lines, fell-last, fell-calls, fell-files, all-tried, named-long, partly-armed}
+use Rattle.group_servers.proofs.FallSteps.{wayless-bare, caught-bare, fit-seats, few-of, few-standbys, count-some, tried, failed-are, took-own, took-up, took-lines, took-unarmed, took-files, plain-good, stale, fell-fell, fell-lines, fell-last, fell-calls, fell-files, all-tried, named-long, partly-armed}
 use Rattle.group_servers.proofs.GoodSteps.{answered-history, accepted-history}
 use Rattle.group_servers.proofs.GroupFiles.{rest-goes-on}
 use Rattle.group_servers.proofs.MadeSteps.{partly-made, partly-still, tries-made, tries-quiet, tries-still}
@@ -80,6 +80,7 @@ pub both-true : (one other : Bool) → (one && other) ≡ true → (one ≡ true
 both-true true true is = (refl, refl)
 both-true true false is = cc
 both-true false other is = cc
+use Rattle.group_servers.proofs.UpSteps.{ended-up}
 
 -- The standbys catch up, if one has the entry.
 
@@ -294,12 +295,15 @@ module _ (n : ℕ) where
         )
 
         -- and the disk counted the calls of the deeds that it kept
-        crashed : Crashed (device_by setup (λ number. 0)) state (counters_of held) (counters_of left)
+        crashed : Crashed (device_by setup (λ number. 0)) state over.state (counters_of held) (counters_of left)
         crashed =
             let counted = own-row took.tried (Some took.place) took.start left row in
             let made = counted.made in
             record {
               row = made;
+              downs =
+                  subst (λ (k : ℕ). count_up state ≡ suc k + count_up over.state) (sym counted.long)
+                  (took-up n setup state good (fell mid.servers) new.servers fresh prepared.front after held left seats-are fresh-so acting-is refl took (λ number. 0) tells);
               fell = none-behind made (counted.long ∙ none-failed);
               some = counted.some;
               spent = spent-start (total made + kept_calls (device_by setup (λ number. 0)) state) (length made) 0 held took.start left took.started counted.spent;
@@ -313,13 +317,13 @@ module _ (n : ℕ) where
             took-files n setup state good (fell mid.servers) new.servers fresh prepared.front after held left seats-are fresh-so acting-is refl took (λ number. 0) held.files standby (rest-goes-on setup state held.files told)
 
       -- **memory was wanting**: what was committed stays so, and none failed before
-      crash-partly : FellPartly fresh mid.servers.seats new.servers.armed held left → (Broken (group_kit n)) setup state held left new × LacksGroup setup past new.history.entries new.servers.armed (counters_of held) (counters_of left)
+      crash-partly : FellPartly fresh mid.servers.seats new.servers.armed held left → (Broken (group_kit n)) setup state held left new × LacksGroup setup state new.history.entries new.servers.armed (counters_of held) (counters_of left)
       crash-partly partly = (
         (whole-broken (group_kit n) (group_laws n)) setup state over.state over.told held left new (over-state setup state n good (λ number. 0)).steady.sound (over-says setup state n good (λ number. 0))
             (subst (λ m. AreSpelled state.world.net m) (sym net-is) shows.net)
             (subst (λ a. ShowsAgents over.state.world a) (sym agents-are) (agents-as state.world over.state.world old.agents refl refl refl shows.agents))
             entries-are (now-is ∙ shows.now) (λ is. partly-armed fresh mid.servers.seats new.servers.armed held left partly) (λ told. files-so told partly.part),
-        lacks-quiet setup past new.history.entries new.servers.armed (made-so partly.part).0 (counters_of held) (counters_of left) (subst (λ (entries : List Entry). EndsIn entries past) (sym entries-are) (committed-ends past (caught_hand catching_so hand))) ((made-so partly.part).1 ∙ ap (λ (t : Tally). many_more (made-so partly.part).0 t.changing) partly.started.tally) ((quiet-so partly.part).0 ∙ partly.started.faults) ((quiet-so partly.part).1 ∙ partly.started.stops),
+        lacks-quiet setup state new.history.entries new.servers.armed (made-so partly.part).0 (counters_of held) (counters_of left) (subst (λ (entries : List Entry). EndsIn entries past) (sym entries-are) (committed-ends past (caught_hand catching_so hand))) ((made-so partly.part).1 ∙ ap (λ (t : Tally). many_more (made-so partly.part).0 t.changing) partly.started.tally) ((quiet-so partly.part).0 ∙ partly.started.faults) ((quiet-so partly.part).1 ∙ partly.started.stops),
       ) where
         T : List Seat → Type 0
         T seats = TriesPartly fresh seats partly.start left
@@ -381,7 +385,7 @@ module _ (n : ℕ) where
           (fell-lines n setup state good (fell mid.servers) new.servers fresh prepared.front after held left seats-are fresh-so acting-is refl all before front-is)
           (λ told. fell-files n setup state good (fell mid.servers) new.servers fresh prepared.front after held left seats-are fresh-so acting-is refl all held.files standby (rest-goes-on setup state held.files told))
         where
-          crash-fell : AllFell fresh (fell mid.servers) new.servers prepared.front after held left → CrashEnded (device_by setup (λ number. 0)) state (counters_of held) (counters_of left)
+          crash-fell : AllFell fresh (fell mid.servers) new.servers prepared.front after held left → CrashEnded (device_by setup (λ number. 0)) state (ended state).state (counters_of held) (counters_of left)
           crash-fell all =
               let tried = all-tried n setup state good (fell mid.servers) new.servers fresh prepared.front after held left seats-are fresh-so acting-is refl all in
               let stale_so = stale n setup state good (fell mid.servers) new.servers fresh prepared.front after held left seats-are fresh-so acting-is refl all in
@@ -393,7 +397,7 @@ module _ (n : ℕ) where
               let long : length made ≡ count_seats is_standby owns = counted.long ∙ count in
               record {
                 row = made;
-                over = omega arith;
+                downs = subst (λ (k : ℕ). count_up state ≡ k + count_up (ended state).state) (sym long) (ended-up state);
                 fell = none-first made (omega arith);
                 some = counted.some;
                 spent = spent-as _ _ _ _ _ _ (counters_of held) (counters_of left) (sum-none (total made)) refl refl
@@ -416,8 +420,9 @@ module _ (n : ℕ) where
           subst (λ (o : Outcome (State Peers)). left.tally.armed ≡ o.state.peers.armed) (sym is) (over-unarmed old mid catching fresh base before lines prepared setup state good shows new after held left (Ok done) falls found.standby took),
           λ told. subst (λ (o : Outcome (State Peers)). LeavesFiles setup o.state held.files left.files) (sym is) (over-files old mid catching fresh base before lines prepared setup state good shows new after held left (Ok done) falls found.standby took told),
           calm-uses setup (line.Crash server) state _ held left still
-              (subst (λ (b : Bool). CountsCrash b (device_by setup (λ number. 0)) state (counters_of held) (counters_of left)) (sym (sym (leads-shown setup state old server good shows) ∙ so))
-              (crashed old mid catching fresh base before lines prepared setup state good shows new after held left (Ok done) falls found.standby took)),
+              (subst (λ (o : Outcome (State Peers)). CountsCrash (same_server server state.peers.acting && any_seat is_standby state.peers.seats) (device_by setup (λ number. 0)) state o.state (counters_of held) (counters_of left)) (sym is)
+              (subst (λ (b : Bool). CountsCrash b (device_by setup (λ number. 0)) state (taken_over (device_by setup (λ number. 0)) state).state (counters_of held) (counters_of left)) (sym (sym (leads-shown setup state old server good shows) ∙ so))
+              (crashed old mid catching fresh base before lines prepared setup state good shows new after held left (Ok done) falls found.standby took))),
         )
 
     pub crash-off : (result : Result (Unit {0}) DiskAnswer) → Falls catching fresh result mid new prepared.front after held left → IfErr result (λ answer. BreaksOff (group_kit n) group_script answer (line.Crash server) old new before after held left)

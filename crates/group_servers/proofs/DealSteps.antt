@@ -11,12 +11,11 @@ use Rattle.stream_layout.specs.Deeds.{calls_of_all}
 use Rattle.plain_service.specs.Setups.{Setup}
 use Rattle.plain_service.specs.Storing.{deeds_of}
 use Rattle.cluster_facts.specs.Types.{Entry}
-use Rattle.cluster_facts.specs.Lists.{EndsIn}
 use Rattle.cluster_events.specs.Devices.{IsCaused}
 use Rattle.cluster_rounds.specs.Kits.{device_by}
 use Rattle.cluster_rounds.specs.Seen.{counters_of}
 use Rattle.group_servers.specs.Deals as deals
-use Rattle.group_servers.specs.Deals.{AreSome, Dealt, Ending, Falling, LackedAt, Spent, Went, faults_by, fell_before, fell_behind, fell_by, made_by, stops_by, total}
+use Rattle.group_servers.specs.Deals.{AreSome, ArmedIn, Dealt, Ending, Falling, LackedAt, Spent, Went, downs_by, faults_by, fell_before, fell_behind, fell_by, made_by, stops_by, total}
 use Rattle.group_servers.specs.Deals.AreDeals.{none, more}
 use Rattle.group_servers.specs.Falls.{IsDisarmed}
 use Rattle.group_servers.specs.GroupUses.{rose-once, spent-as, spent-both}
@@ -60,12 +59,13 @@ fails-row count some = omega arith
 -- how the deeds of the entry in hand broke off, with what fell by it, and what the disk counted
 pub data Broke (armed : Option ℕ) (calls : List DeviceCall) (held mid : DiskSeen) : Type 0 where
   stopped :
-      (count : ℕ) → BreaksOff (LeftOn Stopped) calls count held.files mid.files → counts.reaches (suc count) armed ≡ true
+      (count : ℕ) → BreaksOff (LeftOn Stopped) calls count held.files mid.files
+      → counts.IsShort count armed × (counts.reaches (suc count) armed ≡ true)
       → mid.faults ≡ held.faults → mid.tally ≡ counts.stopped (suc count) held.tally → (held.stops ≤ mid.stops) × Rose held.stops mid.stops
       → Broke armed calls held mid
   failed :
       (count : ℕ) → BreaksOff (LeftOn Failed) calls count held.files mid.files → held.faults ≤ mid.faults → Rose held.faults mid.faults
-      → mid.tally ≡ counts.passed (suc count) held.tally → mid.stops ≡ held.stops → Broke armed calls held mid
+      → counts.IsShort (suc count) armed × (mid.tally ≡ counts.passed (suc count) held.tally) → mid.stops ≡ held.stops → Broke armed calls held mid
 
 abbrev pub went_by : {armed : Option ℕ} {calls : List DeviceCall} {held mid : DiskSeen} → Broke armed calls held mid → Went
 went_by (stopped count off reached stands tally rose) = deals.Stopped (suc count)
@@ -86,18 +86,28 @@ abbrev pub FellSome : {armed : Option ℕ} {calls : List DeviceCall} {held mid :
 FellSome (stopped count off reached stands tally rose) fails = Unit {0}
 FellSome (failed count off later rose tally stops) fails = 1 ≤ fails
 
+-- how many went down, by how many failed as they took over
+pub downs-are : {armed : Option ℕ} {calls : List DeviceCall} {held mid : DiskSeen} → (broke : Broke armed calls held mid) (made : List ℕ) → downs_by (went_by broke) made ≡ suc (length made)
+downs-are (stopped count off reached stands tally rose) made = refl
+downs-are (failed count off later rose tally stops) made = refl
+
+is-fallen : {armed : Option ℕ} {calls : List DeviceCall} {held mid : DiskSeen} → (broke : Broke armed calls held mid) → deals.IsFallen (went_by broke)
+is-fallen (stopped count off reached stands tally rose) = tt
+is-fallen (failed count off later rose tally stops) = tt
+
 -- What was counted.
 
 done-sum : (calls : ℕ) → calls ≡ 0 + 0 + calls + 0
 done-sum calls = omega arith
 
 -- **the deeds of an entry were done**
-pub done-dealt : (setup : Setup) (past : List Entry) (entry : Entry) (held left : DiskSeen) → Spent (length (calls_of_all (deeds_of setup past entry))) 0 0 (counters_of held) (counters_of left) → Dealt (device_by setup (λ number. 0)) past (entry ∷ past) (counters_of held) (counters_of left)
-done-dealt setup past entry held left spent = record {
+pub done-dealt : (setup : Setup) (past : List Entry) (entry : Entry) (held left : DiskSeen) → Spent (length (calls_of_all (deeds_of setup past entry))) 0 0 (counters_of held) (counters_of left) → ArmedIn (length (calls_of_all (deeds_of setup past entry))) deals.Done held.tally.armed left.tally.armed → Dealt (device_by setup (λ number. 0)) past (entry ∷ past) (counters_of held) (counters_of left)
+done-dealt setup past entry held left spent armed = record {
   deals = record { past = past; entry = entry; went = deals.Done; row = [] } ∷ [];
   are = more entry deals.Done [] none;
   ways = (record { fell = refl; went = refl }, tt);
   spent = spent-as _ _ _ _ _ _ (counters_of held) (counters_of left) (done-sum (length (calls_of_all (deeds_of setup past entry)))) refl refl spent;
+  armed = (held.tally.armed, refl, armed);
 }
 
 behind-is : (made : List ℕ) → stops_with (length made) ≡ fell_behind made
@@ -126,16 +136,17 @@ sum-end : (made row : ℕ) → made + (row + 0) ≡ made + row
 sum-end made row = omega arith
 
 -- **the deeds of an entry failed, and there was no standby**
-pub alone-ending : (setup : Setup) (past : List Entry) (entry : Entry) (count : ℕ) (held left : DiskSeen) → AreSome (length (calls_of_all (deeds_of setup past entry))) (suc count) → Spent (suc count) 1 0 (counters_of held) (counters_of left) → Ending (device_by setup (λ number. 0)) past (entry ∷ past) (counters_of held) (counters_of left)
-alone-ending setup past entry count held left some spent = record {
+pub alone-ending : (setup : Setup) (past : List Entry) (entry : Entry) (count : ℕ) (held left : DiskSeen) → AreSome (length (calls_of_all (deeds_of setup past entry))) (suc count) → Spent (suc count) 1 0 (counters_of held) (counters_of left) → ArmedIn (length (calls_of_all (deeds_of setup past entry))) (deals.Failed (suc count)) held.tally.armed left.tally.armed → Ending (device_by setup (λ number. 0)) past (entry ∷ past) (counters_of held) (counters_of left)
+alone-ending setup past entry count held left some spent armed = record {
   entry = entry;
   last = refl;
   went = deals.Failed (suc count);
   row = [];
   fell = refl;
   way = (some, tt);
-  over = tt;
+  fallen = tt;
   spent = spent-as _ _ _ _ _ _ (counters_of held) (counters_of left) (sym (sum-none (suc count))) refl refl spent;
+  armed = armed;
 }
 
 module _ (setup : Setup) (past : List Entry) (entry : Entry) (armed : Option ℕ) (held mid start left : DiskSeen) (broke : Broke armed (calls_of_all (deeds_of setup past entry)) held mid) (started : IsDisarmed mid start) where
@@ -152,7 +163,7 @@ module _ (setup : Setup) (past : List Entry) (entry : Entry) (armed : Option ℕ
         faults = stands;
         stops = rose-once held.stops mid.stops rose.0 rose.1;
       }
-      by (failed count off later rose tally stops) = failed-spent (suc count) held mid tally later rose stops
+      by (failed count off later rose tally stops) = failed-spent (suc count) held mid tally.1 later rose stops
 
   -- so much was spent by it, and so much behind it
   behind-spent : (extra fails : ℕ) → Spent extra fails 0 (counters_of start) (counters_of left) → Spent (made_by (went_by broke) + extra) (faults_by (went_by broke) + fails) (stops_by (went_by broke) + 0) (counters_of held) (counters_of left)
@@ -175,8 +186,8 @@ module _ (setup : Setup) (past : List Entry) (entry : Entry) (armed : Option ℕ
       by (failed at off later rose tally stops) = ap suc (sym long)
 
   -- **a standby took over behind those that failed: the entry was worked**
-  pub fell-dealt : (count : ℕ) → Row calls count true start left → Dealt (device_by setup (λ number. fells broke count)) past (entry ∷ past) (counters_of held) (counters_of left)
-  fell-dealt count row =
+  pub fell-dealt : (count : ℕ) → Row calls count true start left → ArmedIn calls (went_by broke) held.tally.armed left.tally.armed → Dealt (device_by setup (λ number. fells broke count)) past (entry ∷ past) (counters_of held) (counters_of left)
+  fell-dealt count row armed_so =
       let went = went_by broke in
       let made = row.made in
       record {
@@ -186,11 +197,12 @@ module _ (setup : Setup) (past : List Entry) (entry : Entry) (armed : Option ℕ
         spent = spent-as _ _ _ _ _ _ (counters_of held) (counters_of left)
             (sum-one (made_by went) (total made) calls) (sum-row (faults_by went) (length made)) refl
             (behind-spent (total made + calls) (length made) row.spent);
+        armed = (held.tally.armed, refl, armed_so);
       }
 
   -- **all failed**
-  pub fell-ending : (count : ℕ) → 1 ≤ count → Row calls count false start left → Ending (device_by setup (λ number. ends_with broke count)) past (entry ∷ past) (counters_of held) (counters_of left)
-  fell-ending count some row =
+  pub fell-ending : (count : ℕ) → Row calls count false start left → ArmedIn calls (went_by broke) held.tally.armed left.tally.armed → Ending (device_by setup (λ number. ends_with broke count)) past (entry ∷ past) (counters_of held) (counters_of left)
+  fell-ending count row armed_so =
       let went = went_by broke in
       let made = row.made in
       record {
@@ -200,31 +212,24 @@ module _ (setup : Setup) (past : List Entry) (entry : Entry) (armed : Option ℕ
         row = made;
         fell = ends-are broke;
         way = way-is made row.some;
-        over = is-over broke;
+        fallen = is-fallen broke;
         spent = spent-as _ _ _ _ _ _ (counters_of held) (counters_of left)
             (sum-end (made_by went) (total made)) refl (sum-none (stops_by went))
             (behind-spent (total made + 0) (length made) row.spent);
+        armed = armed_so;
       }
     where
       ends-are : (b : Broke armed (calls_of_all (deeds_of setup past entry)) held mid) → ends_with b count ≡ fell_before (went_by b) row.made
       ends-are (stopped at off reached stands tally rose) = ap stops_before (sym row.long) ∙ before-is (suc at) row.made
       ends-are (failed at off later rose tally stops) = sym row.long ∙ failed-is (suc at) row.made
 
-      is-over : (b : Broke armed (calls_of_all (deeds_of setup past entry)) held mid) → deals.IsOver (went_by b) row.made
-      is-over (stopped at off reached stands tally rose) = subst (λ (n : ℕ). 1 ≤ n) (sym row.long) some
-      is-over (failed at off later rose tally stops) = tt
-
   -- **memory was wanting as one took over, or behind it**
-  pub fell-lacked : (entries : List Entry) (server : Bool) (row : PartlyRow calls start left) → EndsIn entries (entry ∷ past) → server ≡ false → left.tally.armed ≡ None → LackedAt (device_by setup (λ number. fells broke (length row.made))) entries past server (counters_of held) (counters_of left)
-  fell-lacked entries server row ends unarmed uncounted =
+  pub fell-lacked : (entries : List Entry) (server : Bool) (most : ℕ) (row : PartlyRow calls most start left) → entries ≡ entry ∷ past → server ≡ false → ArmedIn calls (went_by broke) held.tally.armed left.tally.armed → LackedAt (device_by setup (λ number. fells broke (length row.made))) entries past server (counters_of held) (counters_of left)
+  fell-lacked entries server most row last unarmed armed_so =
       let went = went_by broke in
       let made = row.made in
-      Falling entry went made row.last ends (is-fallen broke) (fells-are (length made) made refl) (way-is made row.some) row.more
+      Falling entry went made row.last last (is-fallen broke) (fells-are (length made) made refl) (way-is made row.some) row.more
       (spent-as _ _ _ _ _ _ (counters_of held) (counters_of left)
       (plus-all (made_by went) (total made) row.last) refl (sum-none (stops_by went))
       (behind-spent (total made + row.last) (length made) row.spent))
-      unarmed uncounted
-    where
-      is-fallen : (b : Broke armed (calls_of_all (deeds_of setup past entry)) held mid) → deals.IsFallen (went_by b)
-      is-fallen (stopped at off reached stands tally rose) = tt
-      is-fallen (failed at off later rose tally stops) = tt
+      unarmed armed_so

@@ -53,10 +53,10 @@ module _ (n : ℕ) (setup : Setup) (state : State Peers) (old new : Cluster (Gro
   }
 
   -- that of an event, whose lines on messages without effect are left out
-  pub ended-by : (Ends : EndBy Peers) (happened : ℕ → ℕ) → EndsOver Ends happened state (ended state) → FaultsGroup setup happened state.world.core.answered (ended state).state.world.core.answered (counters_of held) (counters_of left) → FellGroup setup (ended state).state new.servers left.tally.armed → new.net ≡ old.net → new.agents ≡ old.agents → new.history.entries ≡ (ended state).state.world.core.answered → new.now ≡ old.now → new.callbacks ≡ old.callbacks → after ≡ before ++ printed (ended state).told → (TellsFiles setup state held.files → LeavesBetween setup (ended state).state.world.core.answered held.files left.files) → Ended (group_kit n) setup state Ends new before after held left
+  pub ended-by : (Ends : EndBy Peers) (happened : ℕ → ℕ) → EndsOver Ends happened state (ended state) → FaultsGroup setup happened state (ended state).state (counters_of held) (counters_of left) → FellGroup setup (ended state).state new.servers left.tally.armed → new.net ≡ old.net → new.agents ≡ old.agents → new.history.entries ≡ (ended state).state.world.core.answered → new.now ≡ old.now → new.callbacks ≡ old.callbacks → after ≡ before ++ printed (ended state).told → (TellsFiles setup state held.files → LeavesBetween setup (ended state).state.world.core.answered held.files left.files) → Ended (group_kit n) setup state Ends new before after held left
   ended-by Ends happened ends faults =
       ended-as (λ happened end. EndsOver Ends happened state end)
-      (λ happened end. FaultsGroup setup happened state.world.core.answered end.state.world.core.answered (counters_of held) (counters_of left)) kept_lines happened ends faults
+      (λ happened end. FaultsGroup setup happened state end.state (counters_of held) (counters_of left)) kept_lines happened ends faults
       (ended-printed setup state)
 
   -- The work of an entry in hand ends: in a step of a drain, or in the line `work`.

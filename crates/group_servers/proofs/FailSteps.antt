@@ -123,14 +123,14 @@ module _ (n : ℕ) where
       crash-refused-other server (is_served state.peers.armed (out_at server state.peers.seats)) (stance_of server state.peers.seats) state not_follows
 
   -- the disk counted nothing
-  uncounted-crash : (setup : Setup) (state : State Peers) (server : Server) (disk : DiskSeen) → (same_server server state.peers.acting && any_seat is_standby state.peers.seats) ≡ false → CountsCrash (same_server server state.peers.acting && any_seat is_standby state.peers.seats) (device_by setup (λ number. 0)) state (counters_of disk) (counters_of disk)
-  uncounted-crash setup state server disk not =
-      subst (λ (b : Bool). CountsCrash b (device_by setup (λ number. 0)) state (counters_of disk) (counters_of disk)) (sym not) (spent-none (counters_of disk))
+  uncounted-crash : (setup : Setup) (state new : State Peers) (server : Server) (disk : DiskSeen) → (same_server server state.peers.acting && any_seat is_standby state.peers.seats) ≡ false → CountsCrash (same_server server state.peers.acting && any_seat is_standby state.peers.seats) (device_by setup (λ number. 0)) state new (counters_of disk) (counters_of disk)
+  uncounted-crash setup state new server disk not =
+      subst (λ (b : Bool). CountsCrash b (device_by setup (λ number. 0)) state new (counters_of disk) (counters_of disk)) (sym not) (spent-none (counters_of disk))
 
   pub crash-refuses : (server : Server) (world : Cluster (Group n)) (before after : List (List ℕ)) (disk : DiskSeen) → leads server world.servers ≡ false → follows server world.servers ≡ false → Does (group_kit n) (refused_by n (line.Crash server)) world world before after → DoesOn (group_kit n) group_script (line.Crash server) (crashed_by n server) world world before after disk disk
   crash-refuses server world before after disk not_leads not_follows does setup state good shows armed =
       let is = crash-refused setup server (same_server server state.peers.acting) state (sym (leads-shown n setup state world server good shows) ∙ not_leads) (sym (follows-shown setup state world good shows server) ∙ not_follows) in
-      (subst (HappenedAs setup world before after) (sym is) (does setup state good shows), subst (λ (o : Outcome (State Peers)). disk.tally.armed ≡ o.state.peers.armed) (sym is) armed, λ tells. subst (λ (o : Outcome (State Peers)). LeavesFiles setup o.state disk.files disk.files) (sym is) (left-same setup state disk.files tells), calm-uses setup (line.Crash server) state _ disk disk refl (uncounted-crash setup state server disk (sym (leads-shown n setup state world server good shows) ∙ not_leads)))
+      (subst (HappenedAs setup world before after) (sym is) (does setup state good shows), subst (λ (o : Outcome (State Peers)). disk.tally.armed ≡ o.state.peers.armed) (sym is) armed, λ tells. subst (λ (o : Outcome (State Peers)). LeavesFiles setup o.state disk.files disk.files) (sym is) (left-same setup state disk.files tells), calm-uses setup (line.Crash server) state _ disk disk refl (uncounted-crash setup state (crashed_by n server setup state).state server disk (sym (leads-shown n setup state world server good shows) ∙ not_leads)))
 
   pub arm-refuses : (server : Server) (count : ℕ) (world : Cluster (Group n)) (before after : List (List ℕ)) (disk : DiskSeen) → leads server world.servers ≡ false → Does (group_kit n) (refused_by n (line.Arm server count)) world world before after → DoesOn (group_kit n) group_script (line.Arm server count) (armed_by n server count) world world before after disk disk
   arm-refuses server count world before after disk not_leads does setup state good shows armed =
@@ -211,7 +211,7 @@ module _ (n : ℕ) where
         subst (HappenedAs setup new before after) (sym is) (does setup state good shows),
         subst (λ (o : Outcome (State Peers)). disk.tally.armed ≡ o.state.peers.armed) (sym is) armed,
         λ tells. subst (λ (o : Outcome (State Peers)). LeavesFiles setup o.state disk.files disk.files) (sym is) (left-same setup state disk.files tells),
-        calm-uses setup (line.Crash server) state _ disk disk refl (uncounted-crash setup state server disk (ap (λ b. b && any_seat is_standby state.peers.seats) found.other)),
+        calm-uses setup (line.Crash server) state _ disk disk refl (uncounted-crash setup state (crashed_by n server setup state).state server disk (ap (λ b. b && any_seat is_standby state.peers.seats) found.other)),
       )
 
   -- `arm` and `disarm`.

@@ -50,6 +50,11 @@ same-self one other is = subst (λ s. same_server one s ≡ true) is (self one)
     self B = refl
     self C = refl
 
+pub apart-at : (test : Stance → Bool) (acting : Server) (place : ℕ) (owns : List defined.Seat) (name : Server) → AllByRecursion (λ (other : Server). same_server name other ≡ false) (names_of owns) → IsAtPlace test acting place owns → same_server acting name ≡ false
+apart-at test acting place [] name apart is = elim is [ ]
+apart-at test acting zero (own ∷ owns) name apart is = ap (λ (s : Server). same_server s name) is.0 ∙ same-turned own.server name ∙ apart.0
+apart-at test acting (suc place) (own ∷ owns) name apart is = apart-at test acting place owns name apart.1 is
+
 -- **the seats are those of the definitions**
 pub rejoined-own : (setup : Setup) (past history : List Entry) (hand : Hand) (test : Stance → Bool) (acting : Server) (place : ℕ) (owns : List defined.Seat) → AreDistinct (names_of owns) → IsAtPlace test acting place owns → all_rejoin (standby_by setup history false) (left_at place (won_at place (bare setup past hand owns))) ≡ seats_by setup history Empty (out_at acting (on_seats rejoined owns))
 rejoined-own setup past history hand test acting place [] distinct is = elim is [ ]
@@ -61,16 +66,11 @@ rejoined-own setup past history hand test acting zero (own ∷ owns) distinct is
     ∙ ap (λ b. seat_by setup history Empty (own_stance b) ∷ seats_by setup history Empty (out_at acting (on_seats rejoined owns))) (sym same)
 rejoined-own setup past history hand test acting (suc place) (own ∷ owns) distinct is =
     let rest = rejoined-own setup past history hand test acting place owns distinct.1 is in
-    let apart = not-at test acting place owns own.server distinct.0 is in
+    let apart = apart-at test acting place owns own.server distinct.0 is in
     let own_stance : Bool → defined.Seat = λ b. record { server = own.server; stance = if b then Out else rejoined own.stance } in
     ap (λ (s : Seat). s ∷ all_rejoin (standby_by setup history false) (left_at place (won_at place (bare setup past hand owns)))) (rejoins-by setup past history hand own.server own.stance)
     ∙ ap (λ (more : List Seat). seat_by setup history Empty (own_stance false) ∷ more) rest
     ∙ ap (λ b. seat_by setup history Empty (own_stance b) ∷ seats_by setup history Empty (out_at acting (on_seats rejoined owns))) (sym apart)
-  where
-    not-at : (test : Stance → Bool) (acting : Server) (place : ℕ) (owns : List defined.Seat) (name : Server) → AllByRecursion (λ (other : Server). same_server name other ≡ false) (names_of owns) → IsAtPlace test acting place owns → same_server acting name ≡ false
-    not-at test acting place [] name apart is = elim is [ ]
-    not-at test acting zero (own ∷ owns) name apart is = ap (λ (s : Server). same_server s name) is.0 ∙ same-turned own.server name ∙ apart.0
-    not-at test acting (suc place) (own ∷ owns) name apart is = not-at test acting place owns name apart.1 is
 
 -- **the one that took over is the active server of the history that goes on**, with nobody linked yet
 pub led-own : (setup : Setup) (past : List Entry) (hand : Hand) (on_way : Option ℕ) (mark : Mark) (keeps : Bool) → Follows past hand (Standby on_way mark keeps) → taken_over (node_by setup past hand (Standby on_way mark keeps)) ≡ active_by setup (committed_by past hand) Empty []

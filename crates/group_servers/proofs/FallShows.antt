@@ -1,5 +1,5 @@
 -- Where one takes over the servers of the code are those of the definitions.
-use Rattle.std.proofs.Common.{◌≡◌, ℕ, zero, suc, ◌⊎◌, Bool, true, false, not, ◌||◌, if◌then◌else◌, Some, None, List, [], ◌∷◌, refl, ap, sym, ◌∙◌, subst}
+use Rattle.std.proofs.Common.{◌≡◌, ℕ, zero, suc, ◌+◌, ◌⊎◌, Bool, true, false, not, ◌||◌, if◌then◌else◌, Some, None, List, [], ◌∷◌, refl, ap, sym, ◌∙◌, subst}
 use Rattle.std.specs.List.{AllByRecursion}
 use Rattle.script_lines.specs.declared.line.Server.{Server}
 use Rattle.plain_service.specs.Setups.{Setup}
@@ -11,10 +11,10 @@ use Rattle.mirror.specs.declared.node.Tie.TheVariants.{Linked, Apart}
 use Rattle.mirror.specs.Replicas.{down}
 use Rattle.mirror.specs.Pairing.{alone, taken_over}
 use Rattle.group_cluster.specs.Seats as defined
-use Rattle.group_cluster.specs.Seats.{Stance, Out, Owed, Linking, Standby, Peers, AreNames, Agree, same_server, on_seats, names_of, any_seat}
+use Rattle.group_cluster.specs.Seats.{Stance, Out, Owed, Linking, Standby, Peers, AreNames, Agree, same_server, on_seats, names_of, any_seat, count_seats, is_up}
 use Rattle.group_cluster.specs.Falling.{catches, caught_seats, caught_hand, is_fresh, out_at, rejoined, felled, named, next_of, takes, count_fallen}
 use Rattle.group_cluster.specs.Falling as falling
-use Rattle.group_cluster.proofs.Seating.{AllSeats, any-none, names-caught, names-felled, same-turned}
+use Rattle.group_cluster.proofs.Seating.{AllSeats, any-none, names-caught, names-felled}
 use Rattle.group_servers.specs.declared.group.Seat.{Seat}
 use Rattle.group_servers.specs.declared.group.Group.{Group}
 use Rattle.cluster_rounds.specs.Kits.{device_by}
@@ -25,8 +25,10 @@ use Rattle.group_servers.specs.Rejoins.{all_rejoin, left_at, any_up, led_by, mad
 use Rattle.group_servers.specs.Falls.{Exchanges}
 use Rattle.disk_model.specs.Seen.{DiskSeen}
 use Rattle.group_servers.specs.Tried.{won_at, IsAtPlace, Tried}
+use Rattle.group_servers.specs.GroupCounts.{count_up}
 use Rattle.group_servers.proofs.TriedFiles.{all-follow, all-make}
-use Rattle.group_servers.proofs.FallOwn.{AreDistinct, same-self, rejoined-own, led-own, fallen-told}
+use Rattle.group_servers.proofs.FallOwn.{AreDistinct, apart-at, same-self, rejoined-own, led-own, fallen-told}
+use Rattle.group_servers.proofs.UpSteps.{caught-up, felled-up, led-up, less-most, over-sum, takes-up}
 
 -- The server at the place and the active one changed places.
 
@@ -92,11 +94,6 @@ up-none setup past hand acting (own ∷ owns) apart =
     ap (λ b. b || any_up (bare setup past hand owns)) (up-by setup past hand own.stance)
     ∙ ap (λ b. is_linked (rejoined own.stance) || b) (up-none setup past hand acting owns apart.1)
     ∙ ap S (sym apart.0)
-
-apart-at : (test : Stance → Bool) (acting : Server) (place : ℕ) (owns : List defined.Seat) (name : Server) → AllByRecursion (λ (other : Server). same_server name other ≡ false) (names_of owns) → IsAtPlace test acting place owns → same_server acting name ≡ false
-apart-at test acting place [] name apart is = elim is [ ]
-apart-at test acting zero (own ∷ owns) name apart is = ap (λ (s : Server). same_server s name) is.0 ∙ same-turned own.server name ∙ apart.0
-apart-at test acting (suc place) (own ∷ owns) name apart is = apart-at test acting place owns name apart.1 is
 
 up-led : (setup : Setup) (past : List Entry) (hand : Hand) (test : Stance → Bool) (acting : Server) (place : ℕ) (owns : List defined.Seat) → AreDistinct (names_of owns) → IsAtPlace test acting place owns → any_up (left_at place (won_at place (bare setup past hand owns))) ≡ any_seat is_linked (out_at acting (on_seats rejoined owns))
 up-led setup past hand test acting place [] distinct is = elim is [ ]
@@ -166,6 +163,21 @@ module _ (n : ℕ) (setup : Setup) (state : State Peers) (names : AreNames (name
       let follow = all-follow past state.world.core.hand state.peers.seats catching refl agree in
       let made = all-make setup past hand fresh owns follow (λ no. any-none is_fresh owns (is ∙ no)) in
       fallen-told setup fails fresh tried.count history owns tells (λ some. tried.calls (row_calls setup fresh history) made some) tried.next.0
+
+  -- one server more is down than failed: the one that took over is active
+  pub fall-up : (fails : ℕ → ℕ) (fresh : Bool) (seats : List Seat) (place : ℕ) → any_seat is_fresh owns ≡ fresh → (tried : Tried setup past hand fresh owns seats (Some place) held left) → TellsCount fails tried.count → count_up state ≡ suc tried.count + count_up (falling.taken_over (device_by setup fails) state).state
+  fall-up fails fresh seats place is tried tells =
+      let count = tried.count in
+      let names_are : names_of (felled (takes fresh) count owns) ≡ names_of state.peers.seats = names-felled (takes fresh) count owns ∙ names-caught catching state.peers.seats in
+      let distinct = names-distinct (names_of (felled (takes fresh) count owns)) (subst AreNames (sym names_are) names) in
+      let U : ℕ → Bool → ℕ = λ k f. count_seats is_up (out_at (next_of state.peers.acting k (named (takes f) owns)) (on_seats rejoined (felled (takes f) k owns))) in
+      let told = fall-count fails fresh seats place is tried tells in
+      over-sum count (count_up state) (count_seats is_up owns) (count_seats is_up (felled (takes fresh) count owns)) (U count fresh)
+      (count_up (falling.taken_over (device_by setup fails) state).state)
+      (caught-up catching state.peers.seats)
+      (felled-up (takes fresh) (takes-up fresh) count owns (less-most count (count_seats (takes fresh) owns) tried.next.0))
+      (led-up (takes fresh) (takes-up fresh) (next_of state.peers.acting count (named (takes fresh) owns)) place (felled (takes fresh) count owns) distinct (tried.next.1 state.peers.acting))
+      (ap (λ k. U k fresh) (sym told) ∙ ap (λ f. U (count_fallen (device_by setup fails) f history owns) f) (sym is))
 
   pub fall-shows : (fails : ℕ → ℕ) (fresh : Bool) (seats news lasts : List Seat) (place : ℕ) (active : Node) (before now : Server) → any_seat is_fresh owns ≡ fresh → (tried : Tried setup past hand fresh owns seats (Some place) held left) → TellsCount fails tried.count → Exchanges place seats news (alone down) active before now → lasts ≡ all_rejoin (standby_by setup history false) news → before ≡ state.peers.acting → made_of n now (led_by (any_up news) active) lasts false ≡ servers_by n setup history Empty (falling.taken_over (device_by setup fails) state).state.peers
   fall-shows fails fresh seats news lasts place active before now is tried tells changes rejoin was =

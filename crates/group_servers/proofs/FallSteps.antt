@@ -47,9 +47,10 @@ use Rattle.group_servers.specs.Tries as code
 use Rattle.group_servers.specs.Tries.{Tries, TriesPartly}
 use Rattle.group_servers.specs.Tries.TriesPartly.{passes_by, fails_first, lacks}
 use Rattle.group_servers.specs.Tries.Tries.{nobody, passes, fails, takes_over}
+use Rattle.group_servers.specs.GroupCounts.{count_up}
 use Rattle.group_servers.proofs.DeliverSteps.{first-of, rest-of}
 use Rattle.group_servers.proofs.FallLines.{takers-named, takers-wayless, joiners-named, joiners-wayless, over-printed, fallen-printed}
-use Rattle.group_servers.proofs.FallShows.{TellsCount, fall-leads, fall-count, fall-shows}
+use Rattle.group_servers.proofs.FallShows.{TellsCount, fall-leads, fall-count, fall-shows, fall-up}
 use Rattle.group_servers.proofs.SeatSteps.{at}
 use Rattle.group_servers.proofs.TriedFiles.{all-follow, all-make, fall-leaves}
 use Rattle.group_servers.proofs.TriedSteps.{felled-passes, felled-fails, tried-so}
@@ -327,6 +328,11 @@ module _ (n : ℕ) (setup : Setup) (state : State Peers) (good : IsGood (group_k
           let joined = took.joined (saved_of setup history) (ap (λ (node : Node). node.replica.service) leads) in
           (λ i. made_of n new.acting (joined.0 i) new.seats (took.unarmed i))
           ∙ fall-shows n setup state names agree took.start left counts fresh took.tried took.moved new.seats took.place took.leads old.acting new.acting fresh_is tried tells exchanges joined.1 acting_is
+
+      -- one server more is down than failed
+      pub took-up : (counts : ℕ → ℕ) → TellsCount n setup state good.steady.good.names good.steady.good.agree took.start left counts tried.count → count_up state ≡ suc tried.count + count_up (taken_over (device_by setup counts) state).state
+      took-up counts tells =
+          fall-up n setup state good.steady.good.names good.steady.good.agree took.start left counts fresh took.tried took.place fresh_is tried tells
 
       -- how many failed
       pub failed-are : took.failed ≡ tried.count

@@ -110,6 +110,24 @@ reached-more left count calls reached within = elim (leb_tells left calls) [
   ]
 ]
 
+stops-by : (left count : ℕ) → 1 ≤ left → counts.IsShort count (Some left) → nat_le left (suc count) ≡ true → left ≡ suc count
+stops-by left zero some short reached = elim (leb_tells left 1) [
+  | inl below ↦ let is = below.1 in omega arith
+  | inr above ↦ let not = above.0 in cc
+]
+stops-by left (suc count) some short reached = elim (leb_tells left (suc (suc count))) [
+  | inl below ↦ elim (leb_tells left (suc count)) [
+    | inl less ↦ let not = short (omega arith) in let is = less.0 in cc
+    | inr more ↦ let is = below.1 in let not = more.1 in omega arith
+  ]
+  | inr above ↦ let not = above.0 in cc
+]
+
+-- **the disk stops at the call of its count**
+pub stops-at : (owns : List defined.Seat) (armed : Option ℕ) (count : ℕ) → IsArmed armed owns → counts.IsShort count armed → counts.reaches (suc count) armed ≡ true → armed ≡ Some (suc count)
+stops-at owns None count is short reached = cc
+stops-at owns (Some left) count is short reached = ap Some (stops-by left count is.0 short reached)
+
 -- **one in which the disk stops does, and so there is a standby**
 pub stop-standby : (owns : List defined.Seat) (armed : Option ℕ) (count : ℕ) → IsArmed armed owns → counts.reaches (suc count) armed ≡ true → any_seat is_standby owns ≡ true
 stop-standby owns None count is reached = cc

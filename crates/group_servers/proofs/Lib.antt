@@ -19,6 +19,7 @@ pub mod TriedSteps
 pub mod RejoinSteps
 pub mod TriedFiles
 pub mod FallOwn
+pub mod UpSteps
 pub mod FallShows
 pub mod FallLines
 pub mod MadeSteps

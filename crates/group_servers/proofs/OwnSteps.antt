@@ -48,7 +48,7 @@ use Rattle.group_servers.specs.declared.group.Group.{Group}
 use Rattle.group_servers.specs.GroupKit.{group_kit, group_script}
 use Rattle.group_servers.specs.GroupLaws.{group_laws}
 use Rattle.group_servers.specs.GroupScript.{calm-uses, group_follows}
-use Rattle.group_servers.specs.GroupUses.{dealt-none, spent-none}
+use Rattle.group_servers.specs.GroupUses.{spent-none, worked-same}
 use Rattle.group_servers.specs.GroupNodes.{active_by}
 use Rattle.group_servers.specs.Standing.{standing_as}
 use Rattle.group_servers.specs.Steps.{EndsWork, acked_next, armed_by, crashed_by, disarmed_by, mirrored_next, refused_by, restarted_by, worked_by}
@@ -213,5 +213,5 @@ module _ (n : ℕ) where
       subst (λ (next : Line). PlaysLine (group_kit n) group_script s next old new before after held held) (sym is)
       ((alone-line (group_kit n) (group_laws n) group_script (group_follows n)) r s line.Work (refused_by n line.Work) old new before after held same has
       (λ setup state good shows count. idle-by setup state state.world.core.hand state.peers.seats (subst I shows.own idle))
-      (λ setup state good shows count. calm-uses setup line.Work state _ held held refl (dealt-none (device_by setup (λ number. 0)) state.world.core.answered (counters_of held)))
+      (λ setup state good shows count. calm-uses setup line.Work state (refused_by n line.Work setup state) held held refl (worked-same (device_by setup (λ number. 0)) state (refused_by n line.Work setup state).state (counters_of held) refl refl))
       (λ setup state. record { armed = λ seen armed. armed; tells = λ seen tells. tells }) (subst R is does) breaks)

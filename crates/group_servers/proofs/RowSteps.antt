@@ -1,5 +1,5 @@
 -- What the disk counted as standbys tried to take over, one after another.
-use Rattle.std.proofs.Common.{◌≡◌, ℕ, suc, ◌+◌, ◌≤◌, Bool, true, false, if◌then◌else◌, Option, List, [], ◌∷◌, length, refl, ap, ◌∙◌, subst, arith}
+use Rattle.std.proofs.Common.{◌≡◌, ℕ, suc, ◌+◌, ◌≤◌, Bool, true, false, if◌then◌else◌, Option, List, [], ◌∷◌, length, refl, ap, sym, ◌∙◌, subst, arith}
 use Rattle.std.specs.List.{AllByRecursion}
 use Rattle.ais_values.specs.Causes.{Rose}
 use Rattle.ais_values.proofs.Basics.{one_more}
@@ -21,7 +21,8 @@ use Rattle.group_servers.specs.Followed.{row_calls}
 use Rattle.group_servers.specs.GroupCounts.{last_calls}
 use Rattle.group_servers.specs.GroupUses.{rose-once, spent-as, spent-both}
 use Rattle.group_servers.specs.Tried.{Makes}
-use Rattle.group_servers.specs.Tries.{TriesPartly}
+use Rattle.group_servers.specs.Lines.{takers}
+use Rattle.group_servers.specs.Tries.{TriesPartly, takes}
 use Rattle.group_servers.specs.Tries.TriesPartly.{passes_by, fails_first, lacks}
 use Rattle.group_servers.proofs.GroupFiles.{broke-within}
 
@@ -83,8 +84,10 @@ row-long setup fails false (entry ∷ past) = refl
 
 -- Memory was wanting behind those that failed.
 
-pub record PartlyRow (calls : ℕ) (held left : DiskSeen) : Type 0 where
+-- of so many standbys at most, of which the last one had no fault
+pub record PartlyRow (calls most : ℕ) (held left : DiskSeen) : Type 0 where
   pub made : List ℕ
+  pub few : suc (length made) ≤ most
   pub some : AllByRecursion (AreSome calls) made
   pub last : ℕ
   pub more : AreSome calls last
@@ -96,24 +99,47 @@ plus-all one rest last = omega arith
 pub zero-more : (n : ℕ) → n ≡ 0 + n
 zero-more n = omega arith
 
-pub partly-row : (calls : List DeviceCall) (fresh : Bool) (seats : List Seat) (held left : DiskSeen) → AllByRecursion (Makes calls fresh) seats → TriesPartly fresh seats held left → PartlyRow (length calls) held left
-partly-row calls fresh seats held left makes (passes_by seat not rest) = partly-row calls fresh _ held left makes.1 rest
-partly-row calls fresh seats held left makes (fails_first {mid = mid} seat fallen it one rest) =
-    let deeper = partly-row calls fresh _ mid left makes.1 rest in
+takers-long : (fresh : Bool) (seat : Seat) (seats : List Seat) (b : Bool) → takes fresh seat ≡ b → length (takers fresh (seat ∷ seats)) ≡ (if b then suc (length (takers fresh seats)) else length (takers fresh seats))
+takers-long fresh seat seats true it = ap (λ c. length (if c then seat.server ∷ takers fresh seats else takers fresh seats)) it
+takers-long fresh seat seats false it = ap (λ c. length (if c then seat.server ∷ takers fresh seats else takers fresh seats)) it
+
+one-few : (made most : ℕ) → suc made ≤ most → suc (suc made) ≤ suc most
+one-few made most few = omega arith
+
+first-few : (most : ℕ) → 1 ≤ suc most
+first-few most = omega arith
+
+pub partly-row : (calls : List DeviceCall) (fresh : Bool) (seats : List Seat) (held left : DiskSeen) → AllByRecursion (Makes calls fresh) seats → TriesPartly fresh seats held left → PartlyRow (length calls) (length (takers fresh seats)) held left
+partly-row calls fresh seats held left makes (passes_by {seats = others} seat not rest) =
+    let deeper = partly-row calls fresh others held left makes.1 rest in
+    record {
+      made = deeper.made;
+      few = subst (λ (n : ℕ). suc (length deeper.made) ≤ n) (sym (takers-long fresh seat others false not)) deeper.few;
+      some = deeper.some;
+      last = deeper.last;
+      more = deeper.more;
+      spent = deeper.spent;
+    }
+partly-row calls fresh seats held left makes (fails_first {seats = others} {mid = mid} seat fallen it one rest) =
+    let deeper = partly-row calls fresh others mid left makes.1 rest in
     let some = some-made LeftBy (calls_of_all (deeds_kept seat.node.kept)) one.1 held.files mid.files one.2 in
     let first = failed-spent (suc one.1) held mid one.6 one.4 one.5 one.7 in
     record {
       made = suc one.1 ∷ deeper.made;
+      few =
+          subst (λ (n : ℕ). suc (suc (length deeper.made)) ≤ n) (sym (takers-long fresh seat others true it))
+          (one-few (length deeper.made) (length (takers fresh others)) deeper.few);
       some = (subst (λ (c : List DeviceCall). AreSome (length c) (suc one.1)) (makes.0 it) some, deeper.some);
       last = deeper.last;
       more = deeper.more;
       spent = spent-as _ _ _ _ _ _ (counters_of held) (counters_of left) (plus-all (suc one.1) (total deeper.made) deeper.last) (one_more (length deeper.made)) refl
           (spent-both (suc one.1) (total deeper.made + deeper.last) 1 (length deeper.made) 0 0 (counters_of held) (counters_of mid) (counters_of left) first deeper.spent);
     }
-partly-row calls fresh seats held left makes (lacks seat it one) =
+partly-row calls fresh seats held left makes (lacks {seats = others} seat it one) =
     let some = some-made LeftAlone (calls_of_all (deeds_kept seat.node.kept)) one.0 held.files left.files one.1 in
     record {
       made = [];
+      few = subst (λ (n : ℕ). 1 ≤ n) (sym (takers-long fresh seat others true it)) (first-few (length (takers fresh others)));
       some = tt;
       last = suc one.0;
       more = subst (λ (c : List DeviceCall). AreSome (length c) (suc one.0)) (makes.0 it) some;

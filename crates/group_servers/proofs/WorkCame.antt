@@ -23,7 +23,7 @@ use Rattle.mirror.specs.Working.{deeds_in}
 use Rattle.group_cluster.specs.Seats as defined
 use Rattle.group_cluster.specs.Seats.{Stance, Out, Owed, Linking, Standby, Peers, Agree, IsArmed, any_seat, count_seats, on_seats, is_standby}
 use Rattle.group_cluster.specs.Falling.{named, all_stood}
-use Rattle.group_cluster.specs.Ended.{left_out}
+use Rattle.group_cluster.specs.Ended.{ended, left_out}
 use Rattle.group_cluster.proofs.Seating.{AllSeats, any-none}
 use Rattle.group_cluster.proofs.Stepping.{group_at}
 use Rattle.cluster_rounds.specs.declared.cluster.Cluster.{Cluster}
@@ -36,7 +36,7 @@ use Rattle.cluster_rounds.specs.Seen.{counters_of}
 use Rattle.group_servers.specs.declared.group.Seat.{Seat}
 use Rattle.group_servers.specs.declared.group.Group.{Group}
 use Rattle.group_servers.specs.Falls.{IsFitSeat, TookOver, AllFell, FellPartly, TakesOver, all_wayless}
-use Rattle.group_servers.specs.GroupCounts.{LacksGroup}
+use Rattle.group_servers.specs.GroupCounts.{LacksGroup, count_up}
 use Rattle.group_servers.specs.GroupKit.{group_kit}
 use Rattle.group_servers.specs.GroupLaws.{group_laws}
 use Rattle.group_servers.specs.GroupNodes.{bare, bare_by, seat_by, seats_by}
@@ -53,6 +53,7 @@ use Rattle.group_servers.proofs.GroupSteps.{calls_for}
 use Rattle.group_servers.proofs.RowSteps.{failed-spent, some-made}
 use Rattle.group_servers.proofs.SeatSteps.{at, standby-is}
 use Rattle.group_servers.proofs.WorkFalls.{work-over, work-partly, work-ended}
+use Rattle.group_servers.proofs.UpSteps.{end-deal, ended-up}
 use Rattle.group_servers.proofs.WorkSteps.{ready-for, owed-calls, lacks}
 
 -- An active server without a standby that goes down.
@@ -137,7 +138,7 @@ module _ (n : ℕ) where
   -- memory was wanting
   abbrev LacksOff : Setup → State Peers → Cluster (Group n) → Cluster (Group n) → List (List ℕ) → List (List ℕ) → DiskSeen → DiskSeen → Type 0
   LacksOff setup state old new before after held left =
-      (Broken (group_kit n)) setup state held left new × LacksGroup setup state.world.core.answered new.history.entries new.servers.armed (counters_of held) (counters_of left)
+      (Broken (group_kit n)) setup state held left new × LacksGroup setup state new.history.entries new.servers.armed (counters_of held) (counters_of left)
 
   partly-by : (setup : Setup) (state : State Peers) (hand : Hand) (entry : Entry) (old : Cluster (Group n)) (new : Group n) (fresh : Bool) (before after : List (List ℕ)) (held mid left : DiskSeen) → hand ≡ Ready entry → IsGood (group_kit n) setup (group_at state.peers.seats hand state) → Shows (group_kit n) setup (group_at state.peers.seats hand state) old → held.tally.armed ≡ state.peers.armed → fresh ≡ list_any code.is_fresh old.servers.seats → any_seat is_standby state.peers.seats ≡ true → BrokeIn old held mid → FellPartly fresh old.servers.seats new.armed mid left → LacksOff setup (group_at state.peers.seats hand state) old (with_servers old new) before after held left
   partly-by setup state (Ready other) entry old new fresh before after held mid left is good shows count fresh_so standby broke part =
@@ -195,7 +196,9 @@ module _ (n : ℕ) where
           dealt = dealt-none (device_by setup happened) past (counters_of held);
           ending = alone-ending setup past other count held left
               (some-made (LeftOn Failed) (calls_of_all (deeds_of setup past other)) count held.files left.files whole)
-              (failed-spent (suc count) held left tally later rose stops);
+              (failed-spent (suc count) held left tally later rose stops)
+              (subst (counts.IsShort (suc count)) (sym (armed ∙ unarmed)) (λ some. refl), ap (λ (t : Tally). t.armed) tally ∙ ap (counts.lowered (suc count)) (armed ∙ unarmed));
+          downs = end-deal (count_up now) (count_seats is_standby owns) 0 (count_up (ended now).state) (ended-up now) (sym (count-none is_standby owns none));
         };
       })
       (record {

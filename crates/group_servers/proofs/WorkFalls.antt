@@ -10,14 +10,13 @@ use Rattle.stream_layout.specs.Deeds.{calls_of_all}
 use Rattle.plain_service.specs.Setups.{Setup}
 use Rattle.plain_service.specs.Storing.{deeds_of}
 use Rattle.cluster_facts.specs.Types.{Entry}
-use Rattle.cluster_facts.specs.Lists.{EndsIn}
-use Rattle.cluster_facts.proofs.Words.{EndsIn-same}
 use Rattle.cluster_facts.specs.History.{Ready, committed}
 use Rattle.cluster_events.specs.Servers.{State}
 use Rattle.cluster_events.specs.Devices.{IsCaused}
 use Rattle.group_cluster.specs.Seats as defined
 use Rattle.group_cluster.specs.Seats.{Clear, Sent, Took, Stance, Out, Owed, Linking, Standby, Peers, Agree, any_seat, count_seats, is_standby}
 use Rattle.group_cluster.specs.Falling.{is_fresh, takes, taken_over}
+use Rattle.group_cluster.specs.Ended.{ended}
 use Rattle.group_cluster.proofs.Seating.{AllSeats, any-none}
 use Rattle.group_cluster.proofs.Stepping.{group_at}
 use Rattle.cluster_clients.proofs.DispatchSteps.{agents-as}
@@ -32,25 +31,29 @@ use Rattle.group_servers.specs.declared.group.Seat.{Seat}
 use Rattle.group_servers.specs.declared.group.Group.{Group}
 use Rattle.group_servers.specs.Falls.{TookOver, AllFell, FellPartly, all_wayless}
 use Rattle.group_servers.specs.Followed.{GoesOnFrom, row_calls}
-use Rattle.group_servers.specs.GroupCounts.{LacksGroup}
+use Rattle.group_servers.specs.Deals.{ArmedIn, downs_by}
+use Rattle.group_servers.specs.GroupCounts.{LacksGroup, count_up}
 use Rattle.group_servers.specs.GroupKit.{group_kit}
 use Rattle.group_servers.specs.GroupNodes.{bare}
 use Rattle.group_servers.specs.GroupUses.{dealt-none}
+use Rattle.group_servers.specs.Lines.{takers}
 use Rattle.group_servers.specs.Prepared.{fell, with_servers}
 use Rattle.group_servers.specs.Seats as code
 use Rattle.group_servers.specs.Steps.{grew, worked_by, EndsWork}
 use Rattle.group_servers.specs.Tried.{Makes, Row, Tried}
 use Rattle.group_servers.specs.Tries.{Tries, TriesPartly}
-use Rattle.group_servers.proofs.DealSteps.{Broke, FellSome, before-caused, ends_with, fails-row, fell-dealt, fell-ending, fell-lacked, fells, stops-caused, stops-row, stops-tell}
+use Rattle.group_servers.proofs.DealSteps.{Broke, FellSome, before-caused, downs-are, ends_with, fails-row, fell-dealt, fell-ending, fell-lacked, fells, stops-caused, stops-row, stops-tell, went_by}
 use Rattle.group_servers.proofs.DealSteps.Broke.{stopped, failed}
 use Rattle.group_servers.proofs.EndSteps.{ended-by, work-ends}
+use Rattle.group_servers.proofs.FallLines.{takers-named}
 use Rattle.group_servers.proofs.FallShows.{TellsCount}
-use Rattle.group_servers.proofs.FallSteps.{wayless-bare, tried, took-own, took-lines, took-unarmed, took-later, took-caused, took-files, plain-good, fell-fell, fell-lines, fell-last, fell-files, count-some, all-tried, partly-unarmed, tries-unarmed}
-use Rattle.group_servers.proofs.GroupFiles.{some-of, broke-within, work-breaks, stop-falls, fault-falls}
+use Rattle.group_servers.proofs.FallSteps.{wayless-bare, few-of, named-long, tried, took-own, took-up, took-lines, took-unarmed, took-later, took-caused, took-files, plain-good, fell-fell, fell-lines, fell-last, fell-files, count-some, all-tried, partly-unarmed, tries-unarmed}
+use Rattle.group_servers.proofs.GroupFiles.{some-of, broke-within, work-breaks, stop-falls, stops-at, fault-falls}
 use Rattle.group_servers.proofs.GroupSteps.{calls_for, falls_by, line-works, work-step, work-comes}
 use Rattle.group_servers.proofs.OverSteps.{over-down, over-state}
 use Rattle.group_servers.proofs.RowSteps.{PartlyRow, partly-row, some-all}
 use Rattle.group_servers.proofs.SeatSteps.{fresh-is}
+use Rattle.group_servers.proofs.UpSteps.{end-deal, ended-up, lost-few, over-deal, standbys-up, taken-few}
 use Rattle.group_servers.proofs.TriedFiles.{all-follow, all-make, partly-leaves, fall-leaves}
 use Rattle.group_servers.proofs.TriedSteps.{tried-so}
 use Rattle.group_servers.proofs.WorkSteps.{step-came}
@@ -136,14 +139,27 @@ module _ (n : ℕ) where
       where
         by : (b : Broke held.tally.armed (calls_of_all (deeds_of setup past entry)) held mid) → FellSome b fails → falls_by n setup (λ number. fails) entry now ≡ true
         by (stopped count off reached stands tally stops) fell =
-            stop-falls state.peers.seats state.peers.armed count (calls_for n setup past entry) fails good.steady.good.armed (subst (λ (armed : Option ℕ). counts.reaches (suc count) armed ≡ true) count_is reached) (broke-within (LeftOn Stopped) (calls_of_all (deeds_of setup past entry)) count held.files mid.files off)
+            stop-falls state.peers.seats state.peers.armed count (calls_for n setup past entry) fails good.steady.good.armed (subst (λ (armed : Option ℕ). counts.reaches (suc count) armed ≡ true) count_is reached.1) (broke-within (LeftOn Stopped) (calls_of_all (deeds_of setup past entry)) count held.files mid.files off)
         by (failed count off later rose tally stops) fell =
             fault-falls state.peers.seats state.peers.armed count (calls_for n setup past entry) fails (broke-within (LeftOn Failed) (calls_of_all (deeds_of setup past entry)) count held.files mid.files off) standby fell
+
+    -- the armed count told how the work went, and none is left
+    armed-in : left.tally.armed ≡ None → ArmedIn (calls_for n setup past entry) (went_by broke) held.tally.armed left.tally.armed
+    armed-in none = by broke
+      where
+        by : (b : Broke held.tally.armed (calls_of_all (deeds_of setup past entry)) held mid) → ArmedIn (calls_for n setup past entry) (went_by b) held.tally.armed left.tally.armed
+        by (stopped count off reached stands tally stops) = (
+          count_is ∙ stops-at state.peers.seats state.peers.armed count good.steady.good.armed (subst (counts.IsShort count) count_is reached.0) (subst (λ (armed : Option ℕ). counts.reaches (suc count) armed ≡ true) count_is reached.1),
+          none,
+        )
+        by (failed count off later rose tally stops) = (tally.0, none)
 
     -- **a standby took over**
     pub work-over : TookOver fresh (fell old.servers) new before after mid left → Came (group_kit n) setup now (worked_by n setup) (with_servers old new) before after (grew old (with_servers old new)) held left
     work-over took =
         let row = tried n setup now good (fell old.servers) new fresh before after mid left seats-are fresh-so acting-is refl took in
+        let counted = own-row took.tried (Some took.place) took.start left row in
+        let unarmed = took-unarmed n setup now good (fell old.servers) new fresh before after mid left seats-are fresh-so acting-is refl took in
         let fails = fells broke row.count in
         let happened : ℕ → ℕ = λ number. fails in
         let tells : TellsCount n setup now good.steady.good.names good.steady.good.agree took.start left happened row.count = λ number. fells-tell row.count in
@@ -153,7 +169,13 @@ module _ (n : ℕ) where
         step-came n setup now outcome (worked_by n setup) happened old (with_servers old new) before after held left shows (work-step n setup happened now entry true good refl fell_so) (work-comes n setup (worked_by n setup) happened now entry true (line-works n setup now entry refl) refl fell_so)
         (caused-so row.count (took-caused n setup now good (fell old.servers) new fresh before after mid left seats-are fresh-so acting-is refl took) later)
         (le_trans later-so later) (λ more. over-down setup now happened)
-        (fell-dealt setup past entry held.tally.armed held mid took.start left broke took.started row.count (own-row took.tried (Some took.place) took.start left row))
+        (record {
+          dealt = fell-dealt setup past entry held.tally.armed held mid took.start left broke took.started row.count counted (armed-in unarmed);
+          downs =
+              over-deal (count_up now) (downs_by (went_by broke) counted.made) row.count (count_up outcome.state)
+              (took-up n setup now good (fell old.servers) new fresh before after mid left seats-are fresh-so acting-is refl took happened tells)
+              (downs-are broke counted.made ∙ ap suc counted.long);
+        })
         (record {
           own = took-own n setup now good (fell old.servers) new fresh before after mid left seats-are fresh-so acting-is refl took happened tells;
           net = shows.net;
@@ -163,7 +185,7 @@ module _ (n : ℕ) where
           callbacks = shows.callbacks;
         })
         (took-lines n setup now good (fell old.servers) new fresh before after mid left seats-are fresh-so acting-is refl took happened before tells (sym (append-nil before)))
-        (took-unarmed n setup now good (fell old.servers) new fresh before after mid left seats-are fresh-so acting-is refl took)
+        unarmed
         (λ told. took-files n setup now good (fell old.servers) new fresh before after mid left seats-are fresh-so acting-is refl took happened held.files standby (goes-on told))
       where
         some-fell : (count : ℕ) (b : Broke held.tally.armed (calls_of_all (deeds_of setup past entry)) held mid) → FellSome b (fells b count)
@@ -178,7 +200,7 @@ module _ (n : ℕ) where
             by (failed at off before_it first tally stops) = λ never number. absurd (never (le_trans first later))
 
     -- **memory was wanting, as one took over or behind it**
-    pub work-partly : FellPartly fresh old.servers.seats new.armed mid left → (TellsFiles setup now held.files → LeavesBetween setup (committed now.world.core) held.files left.files) × LacksGroup setup past old.history.entries new.armed (counters_of held) (counters_of left)
+    pub work-partly : FellPartly fresh old.servers.seats new.armed mid left → (TellsFiles setup now held.files → LeavesBetween setup (committed now.world.core) held.files left.files) × LacksGroup setup now old.history.entries new.armed (counters_of held) (counters_of left)
     work-partly partly = (
       λ told. files-so told partly.part,
       record {
@@ -186,7 +208,10 @@ module _ (n : ℕ) where
         past = past;
         worked = counters_of held;
         dealt = dealt-none (device_by setup (λ number. fells broke (length row.made))) past (counters_of held);
-        lacked = fell-lacked setup past entry held.tally.armed held mid partly.start left broke partly.started old.history.entries new.armed row (subst (λ (entries : List Entry). EndsIn entries (entry ∷ past)) (sym shows.history) (EndsIn-same (entry ∷ past))) partly.unarmed (uncounted-so partly.part);
+        lacked = fell-lacked setup past entry held.tally.armed held mid partly.start left broke partly.started old.history.entries new.armed (count_seats (takes fresh) state.peers.seats) row shows.history partly.unarmed (armed-in (uncounted-so partly.part));
+        downs =
+            lost-few (downs_by (went_by broke) row.made) (length row.made) (count_seats (takes fresh) state.peers.seats) (count_seats is_standby state.peers.seats) (count_up now)
+            (downs-are broke row.made) row.few (few-of fresh state.peers.seats) (standbys-up state.peers.seats);
       },
     ) where
       T : List Seat → Type 0
@@ -201,16 +226,18 @@ module _ (n : ℕ) where
           left-between setup (taken_over (device_by setup (λ number. 0)) now).state held.files left.files behind.begins behind.steady.sound behind.range made
 
       -- how many made which calls: the one that took over made all
-      row-by : TriesPartly fresh (all_wayless old.servers.seats) partly.start left ⊎ ((seats : List Seat) × (place : ℕ) × Tries fresh (all_wayless old.servers.seats) seats (Some place) partly.start left) → PartlyRow (calls_for n setup past entry) partly.start left
+      row-by : TriesPartly fresh (all_wayless old.servers.seats) partly.start left ⊎ ((seats : List Seat) × (place : ℕ) × Tries fresh (all_wayless old.servers.seats) seats (Some place) partly.start left) → PartlyRow (calls_for n setup past entry) (count_seats (takes fresh) state.peers.seats) partly.start left
       row-by (inl part) =
-          let R : Bool → Type 0 = λ f. PartlyRow (length (row_calls setup f (entry ∷ past))) partly.start left in
-          subst R never-fresh (partly-row (row_calls setup fresh (entry ∷ past)) fresh (bare setup past (Ready entry) state.peers.seats) partly.start left makes-row (subst T seats-are part))
+          let own = bare setup past (Ready entry) state.peers.seats in
+          let R : Bool → ℕ → Type 0 = λ f most. PartlyRow (length (row_calls setup f (entry ∷ past))) most partly.start left in
+          let many : length (takers fresh own) ≡ count_seats (takes fresh) state.peers.seats = ap length (takers-named setup past (Ready entry) fresh state.peers.seats) ∙ named-long (takes fresh) state.peers.seats in
+          subst (R false) many (subst (λ f. R f (length (takers fresh own))) never-fresh (partly-row (row_calls setup fresh (entry ∷ past)) fresh (bare setup past (Ready entry) state.peers.seats) partly.start left makes-row (subst T seats-are part)))
       row-by (inr over) =
           let made = tried-so setup past (Ready entry) fresh state.peers.seats (all_wayless old.servers.seats) over.0 (Some over.1) partly.start left seats-are over.2 in
           let all = own-row over.0 (Some over.1) partly.start left made in
-          record { made = all.made; some = all.some; last = calls_for n setup past entry; more = some-all (calls_for n setup past entry) some-calls; spent = all.spent }
+          record { made = all.made; few = taken-few (length all.made) made.count (count_seats (takes fresh) state.peers.seats) all.long made.next.0; some = all.some; last = calls_for n setup past entry; more = some-all (calls_for n setup past entry) some-calls; spent = all.spent }
 
-      row : PartlyRow (calls_for n setup past entry) partly.start left
+      row : PartlyRow (calls_for n setup past entry) (count_seats (takes fresh) state.peers.seats) partly.start left
       row = row-by partly.part
 
       uncounted-so : TriesPartly fresh (all_wayless old.servers.seats) partly.start left ⊎ ((seats : List Seat) × (place : ℕ) × Tries fresh (all_wayless old.servers.seats) seats (Some place) partly.start left) → left.tally.armed ≡ None
@@ -237,7 +264,9 @@ module _ (n : ℕ) where
             past = past;
             worked = counters_of held;
             dealt = dealt-none (device_by setup happened) past (counters_of held);
-            ending = fell-ending setup past entry held.tally.armed held mid all.start left broke all.started many some (row-many all);
+            ending = fell-ending setup past entry held.tally.armed held mid all.start left broke all.started many (row-many all)
+                (armed-in (fell-fell n setup now good (fell old.servers) new fresh before after mid left seats-are fresh-so acting-is refl all).count);
+            downs = end-deal (count_up now) many (length (row-many all).made) (count_up (ended now).state) (ended-up now) (row-many all).long;
           };
         })
         (fell-fell n setup now good (fell old.servers) new fresh before after mid left seats-are fresh-so acting-is refl all) refl refl shows.history refl refl

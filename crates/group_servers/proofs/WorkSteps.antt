@@ -45,8 +45,7 @@ use Rattle.cluster_rounds.proofs.UnaskedSteps.{unasked-same}
 use Rattle.cluster_rounds.specs.Seen.{counters_of}
 use Rattle.group_servers.specs.declared.group.Seat.{Seat}
 use Rattle.group_servers.specs.declared.group.Group.{Group}
-use Rattle.group_servers.specs.Deals.{Dealt}
-use Rattle.group_servers.specs.GroupCounts.{TellsDown}
+use Rattle.group_servers.specs.GroupCounts.{TellsDown, WorkedAll}
 use Rattle.group_servers.specs.GroupKit.{group_kit}
 use Rattle.group_servers.specs.GroupLaws.{group_laws}
 use Rattle.group_servers.specs.GroupNodes.{active_by}
@@ -61,6 +60,7 @@ use Rattle.group_servers.proofs.GroupSteps.{IsStep, calls_for, falls_by, line-wo
 use Rattle.group_servers.proofs.HearBroken.{posts-none, posts-one}
 use Rattle.group_servers.proofs.HeldSteps.{calls-few}
 use Rattle.group_servers.proofs.RowSteps.{passed-spent}
+use Rattle.group_servers.proofs.UpSteps.{done-up}
 
 -- The reply of an entry.
 
@@ -115,12 +115,12 @@ module _ (n : ℕ) where
   -- What an event of the code came to.
 
   -- what a step came to, by what the code was left as
-  pub step-came : (setup : Setup) (state : State Peers) (outcome : Outcome (State Peers)) (event : EventBy Peers) (happened : ℕ → ℕ) (old new : Cluster (Group n)) (before after : List (List ℕ)) (held left : DiskSeen) → Shows (group_kit n) setup state old → IsStep n setup state outcome → ComesTo event happened state outcome → IsCaused held.faults left.faults happened → held.faults ≤ left.faults → TellsDown held.faults left.faults outcome.told → Dealt (device_by setup happened) state.world.core.answered outcome.state.world.core.answered (counters_of held) (counters_of left) → Shows (group_kit n) setup outcome.state new → after ≡ before ++ printed outcome.told → left.tally.armed ≡ outcome.state.peers.armed → (TellsFiles setup state held.files → LeavesFiles setup outcome.state held.files left.files) → Came (group_kit n) setup state event new before after (grew old new) held left
-  step-came setup state outcome event happened old new before after held left shown step comes caused outlives felled dealt shows lines count files = record {
+  pub step-came : (setup : Setup) (state : State Peers) (outcome : Outcome (State Peers)) (event : EventBy Peers) (happened : ℕ → ℕ) (old new : Cluster (Group n)) (before after : List (List ℕ)) (held left : DiskSeen) → Shows (group_kit n) setup state old → IsStep n setup state outcome → ComesTo event happened state outcome → IsCaused held.faults left.faults happened → held.faults ≤ left.faults → TellsDown held.faults left.faults outcome.told → WorkedAll (device_by setup happened) state outcome.state (counters_of held) (counters_of left) → Shows (group_kit n) setup outcome.state new → after ≡ before ++ printed outcome.told → left.tally.armed ≡ outcome.state.peers.armed → (TellsFiles setup state held.files → LeavesFiles setup outcome.state held.files left.files) → Came (group_kit n) setup state event new before after (grew old new) held left
+  step-came setup state outcome event happened old new before after held left shown step comes caused outlives felled worked shows lines count files = record {
     happened = happened;
     outcome = outcome;
     comes = comes;
-    uses = record { caused = caused; later = outlives; felled = felled; dealt = dealt };
+    uses = record { caused = caused; later = outlives; felled = felled; worked = worked };
     played = record {
       shows = shows;
       good = step.good;
@@ -186,7 +186,12 @@ module _ (n : ℕ) where
       let done = done-shows setup state other old node active seats net heard before after many good shows worked told in
       step-came setup now (work_so n setup happened other false now) (worked_by n setup) happened old (worked_as old active seats net) before after held left shows (work-step n setup happened now other false good refl stands) (work-comes n setup (worked_by n setup) happened now other false (line-works n setup now other refl) refl stands)
       (λ never number. refl) (subst (λ (m : ℕ). held.faults ≤ m) (sym faults) (le_refl held.faults)) (λ more. absurd (let same = faults in omega arith))
-      (done-dealt setup past other held left (passed-spent many held left (tally ∙ ap (λ c. counts.passed (length c) held.tally) calls) faults stops)) done.0 done.1
+      (record {
+        dealt = done-dealt setup past other held left (passed-spent many held left (tally ∙ ap (λ c. counts.passed (length c) held.tally) calls) faults stops)
+            (subst (λ c. counts.IsShort (length c) held.tally.armed) calls short, ap (λ (t : Tally). t.armed) tally ∙ ap (λ c. counts.lowered (length c) held.tally.armed) calls);
+        downs = done-up state.peers.seats;
+      })
+      done.0 done.1
       (ap (λ (t : Tally). t.armed) tally ∙ ap (λ c. counts.lowered (length c) held.tally.armed) calls ∙ ap (counts.lowered many) count)
       (work-files n setup now other held.files left.files good refl (files ∙ ap (λ c. option_map (all_applied c) held.files) calls))
   works-by setup state Empty entry old node active seats net heard before after held left is good shows count worked told files short tally faults stops = cc
@@ -209,7 +214,7 @@ module _ (n : ℕ) where
         lacks setup state held left old (record old { servers = record old.servers { active = node } }) good shows refl refl refl refl
             (armed-so setup state count held left old shows (ap (λ (t : Tally). t.armed) tally))
             (λ tells. subst C (sym found.ready) ((broken-between (group_kit n) (group_laws n)) setup state found.entry Memory count held.files left.files whole tells)),
-        lacks-quiet setup state.world.core.answered old.history.entries old.servers.armed (suc count) (counters_of held) (counters_of left) ((shown-ends (group_kit n) (group_laws n)) setup state old shows) (ap (λ (t : Tally). t.changing) tally) stands stops,
+        lacks-quiet setup state old.history.entries old.servers.armed (suc count) (counters_of held) (counters_of left) ((shown-ends (group_kit n) (group_laws n)) setup state old shows) (ap (λ (t : Tally). t.changing) tally) stands stops,
       )
 
   untold-by : (setup : Setup) (state : State Peers) (hand : Hand) (entry : Entry) (old new : Cluster (Group n)) (heard : Heard) (node : Node) (held left : DiskSeen) → hand ≡ Ready entry → IsGood (group_kit n) setup (group_at state.peers.seats hand state) → Shows (group_kit n) setup (group_at state.peers.seats hand state) old → held.tally.armed ≡ state.peers.armed → IsWorked old.servers.active heard node → PostsSome heard.to_net old.net new.net → left.files ≡ option_map (all_applied (calls_of_all (deeds_in old.servers.active.replica.owed))) held.files → counts.IsShort (length (calls_of_all (deeds_in old.servers.active.replica.owed))) held.tally.armed → new.agents ≡ old.agents → new.history.entries ≡ old.history.entries → new.now ≡ old.now → new.servers.armed ≡ is_some left.tally.armed → (Broken (group_kit n)) setup (group_at state.peers.seats hand state) held left new
@@ -244,7 +249,7 @@ module _ (n : ℕ) where
       let found = ready-for setup state old shows some none in (
         untold-by setup state state.world.core.hand found.entry old new heard node held left found.ready good shows armed worked posts files short agents history now
             (same ∙ armed-so setup state (length (calls_of_all (deeds_in old.servers.active.replica.owed))) held left old shows (ap (λ (t : Tally). t.armed) tally) armed),
-        lacks-quiet setup state.world.core.answered new.history.entries new.servers.armed (length (calls_of_all (deeds_in old.servers.active.replica.owed))) (counters_of held) (counters_of left) (subst (λ (entries : List Entry). EndsIn entries state.world.core.answered) (sym history) ((shown-ends (group_kit n) (group_laws n)) setup state old shows)) (ap (λ (t : Tally). t.changing) tally) stands stops,
+        lacks-quiet setup state new.history.entries new.servers.armed (length (calls_of_all (deeds_in old.servers.active.replica.owed))) (counters_of held) (counters_of left) (subst (λ (entries : List Entry). EndsIn entries state.world.core.answered) (sym history) ((shown-ends (group_kit n) (group_laws n)) setup state old shows)) (ap (λ (t : Tally). t.changing) tally) stands stops,
       )
 
   -- What is posted is in range.

@@ -1,8 +1,8 @@
 -- Words of public clauses: what a disk counts of the works of entries, and of the takeovers behind them.
-use Rattle.std.specs.Prelude.{◌≡◌, ℕ, zero, suc, ◌+◌, ◌≤◌, Bool, false, None, List, [], ◌∷◌, length}
+use Rattle.std.specs.Prelude.{◌≡◌, ℕ, zero, suc, ◌+◌, ◌≤◌, Bool, false, Option, Some, None, List, [], ◌∷◌, length}
 use Rattle.std.specs.List.{AllByRecursion}
 use Rattle.ais_values.specs.Causes.{Rose}
-use Rattle.disk_model.specs.Counts.{Counters, many_more}
+use Rattle.disk_model.specs.Counts.{Counters, IsShort, lowered, many_more}
 use Rattle.cluster_facts.specs.Types.{Entry}
 use Rattle.cluster_facts.specs.Lists.{EndsIn}
 use Rattle.cluster_events.specs.Devices.{Device}
@@ -68,6 +68,19 @@ fell_by Done row = 0
 fell_by (Stopped made) row = fell_behind row
 fell_by (Failed made) row = suc (length row)
 
+-- how many servers went down: the one that worked, where it did not make all calls, and each standby that failed
+abbrev pub downs_by : Went → List ℕ → ℕ
+downs_by Done row = 0
+downs_by (Stopped made) row = suc (length row)
+downs_by (Failed made) row = suc (length row)
+
+-- The armed count of the disk before a work and behind what followed: a work whose calls are all made does not reach it, nor does one in
+-- which the disk has a fault; where the disk stops it was the number of that call. Behind a work that fell no count is left
+abbrev pub ArmedIn : ℕ → Went → Option ℕ → Option ℕ → Type 0
+ArmedIn calls Done before after = IsShort calls before × (after ≡ lowered calls before)
+ArmedIn calls (Stopped made) before after = (before ≡ Some made) × (after ≡ None)
+ArmedIn calls (Failed made) before after = IsShort made before × (after ≡ None)
+
 -- the work of an entry behind a history, and the takeovers behind it
 pub record Deal : Type 0 where
   pub past : List Entry
@@ -84,6 +97,9 @@ faults_in deal = faults_by deal.went + length deal.row
 abbrev pub stops_in : Deal → ℕ
 stops_in deal = stops_by deal.went
 
+abbrev pub downs_in : Deal → ℕ
+downs_in deal = downs_by deal.went deal.row
+
 -- as many servers fell as the device says
 pub record IsWay (device : Device) (deal : Deal) : Type 0 where
   pub fell : device.fails (suc (length deal.past)) ≡ fell_by deal.went deal.row
@@ -93,6 +109,12 @@ pub record IsWay (device : Device) (deal : Deal) : Type 0 where
 abbrev pub of_all : (Deal → ℕ) → List Deal → ℕ
 of_all count [] = 0
 of_all count (deal ∷ deals) = count deal + of_all count deals
+
+-- the armed count along them, the newest first, by the calls of an entry's deeds behind a history
+abbrev pub ArmedAlong : (List Entry → Entry → ℕ) → List Deal → Option ℕ → Option ℕ → Type 0
+ArmedAlong calls [] before after = after ≡ before
+ArmedAlong calls (deal ∷ deals) before after =
+    (between : Option ℕ) × ArmedAlong calls deals before between × ArmedIn (calls deal.past deal.entry) deal.went between after
 
 -- one for each entry that the new history has more than the old one, the newest first
 pub data AreDeals (old : List Entry) : List Entry → List Deal → Type 0 where
@@ -106,17 +128,12 @@ pub record Dealt (device : Device) (old new : List Entry) (before after : Counte
   pub are : AreDeals old new deals
   pub ways : AllByRecursion (IsWay device) deals
   pub spent : Spent (of_all (calls_in device) deals) (of_all faults_in deals) (of_all stops_in deals) before after
+  pub armed : ArmedAlong device.calls deals before.tally.armed after.tally.armed
 
 -- how many fell before the last one
 abbrev pub fell_before : Went → List ℕ → ℕ
 fell_before went [] = 0
 fell_before went (one ∷ row) = fell_by went row
-
--- nobody is left: no standby was there, and the fault was the work's own; or each of them had one
-abbrev pub IsOver : Went → List ℕ → Type 0
-IsOver Done row = ⊥
-IsOver (Stopped made) row = 1 ≤ length row
-IsOver (Failed made) row = Unit {0}
 
 -- the work of the entry behind this history fell, and the event ended in it: it is the last one of the history that the event ended with
 pub record Ending (device : Device) (past now : List Entry) (before after : Counters) : Type 0 where
@@ -126,18 +143,26 @@ pub record Ending (device : Device) (past now : List Entry) (before after : Coun
   pub row : List ℕ
   pub fell : device.fails (suc (length past)) ≡ fell_before went row
   pub way : IsWent (device.calls past entry) went row
-  pub over : IsOver went row
+  pub fallen : IsFallen went
   pub spent : Spent (made_by went + total row) (faults_by went + length row) (stops_by went) before after
+  pub armed : ArmedIn (device.calls past entry) went before.tally.armed after.tally.armed
 
 -- Memory was wanting behind so many calls, none of which failed, and the disk did not stop; or the work of the entry behind this history
 -- fell, and memory was wanting as a standby took over, in the last of so many calls, or behind all of them: it is asked for nowhere else.
--- Then no server is armed, and no count is left on the disk. The entries that were worked are of the history that was left.
+-- Then no server is armed, and no count is left on the disk. The entries that were worked are of the history that was left, and the one
+-- that fell is its last.
 pub data LackedAt (device : Device) (entries past : List Entry) (armed : Bool) (before after : Counters) : Type 0 where
   Quiet :
       EndsIn entries past → (calls : ℕ) → after.tally.changing ≡ many_more calls before.tally.changing → after.faults ≡ before.faults → after.stops ≡ before.stops
       → LackedAt device entries past armed before after
   Falling :
-      (entry : Entry) (went : Went) (row : List ℕ) (made : ℕ) → EndsIn entries (entry ∷ past) → IsFallen went → device.fails (suc (length past)) ≡ fell_by went row
+      (entry : Entry) (went : Went) (row : List ℕ) (made : ℕ) → entries ≡ entry ∷ past → IsFallen went → device.fails (suc (length past)) ≡ fell_by went row
       → IsWent (device.calls past entry) went row → AreSome (device.calls past entry) made
       → Spent ((made_by went + total row) + made) (faults_by went + length row) (stops_by went) before after
-      → armed ≡ false → after.tally.armed ≡ None → LackedAt device entries past armed before after
+      → armed ≡ false → ArmedIn (device.calls past entry) went before.tally.armed after.tally.armed → LackedAt device entries past armed before after
+
+-- how many servers fell then
+abbrev pub downs_at : {device : Device} {entries past : List Entry} {armed : Bool} {before after : Counters}
+    → LackedAt device entries past armed before after → ℕ
+downs_at (Quiet ends calls made faults stops) = 0
+downs_at (Falling entry went row made last fallen fell way some spent unarmed counted) = downs_by went row

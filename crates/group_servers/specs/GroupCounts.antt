@@ -1,5 +1,5 @@
 -- Words of public clauses: what the disk of servers counted in an event, by the works that failed.
-use Rattle.std.specs.Prelude.{◌≡◌, ℕ, ◌+◌, ◌<◌, ◌≤◌, Bool, true, false, ◌&&◌, nat_lt, if◌then◌else◌, Option, List, [], ◌∷◌, length}
+use Rattle.std.specs.Prelude.{◌≡◌, ℕ, suc, ◌+◌, ◌<◌, ◌≤◌, Bool, true, false, ◌&&◌, nat_lt, if◌then◌else◌, Option, List, [], ◌∷◌, length}
 use Rattle.std.specs.List.{AllByRecursion, list_any}
 use Rattle.ais_values.specs.Causes.{Rose}
 use Rattle.disk_model.specs.Counts.{Counters}
@@ -15,11 +15,11 @@ use Rattle.cluster_events.specs.Lines.{Told, Stood}
 use Rattle.cluster_events.specs.Outcomes.{Outcome}
 use Rattle.cluster_events.specs.Servers.{State}
 use Rattle.cluster_events.specs.Devices.{Device, IsCaused}
-use Rattle.group_cluster.specs.Seats.{Peers, any_seat, count_seats, is_standby, same_server}
+use Rattle.group_cluster.specs.Seats.{Peers, any_seat, count_seats, is_standby, is_up, same_server}
 use Rattle.group_cluster.specs.Falling.{catches, caught_hand, caught_seats, is_fresh}
 use Rattle.cluster_rounds.specs.Kits.{device_by}
 use Rattle.cluster_lines.specs.Playing.{LooksBy}
-use Rattle.group_servers.specs.Deals.{AreSome, Dealt, Ending, LackedAt, Spent, fell_behind, total}
+use Rattle.group_servers.specs.Deals.{AreSome, Dealt, Ending, LackedAt, Spent, downs_at, downs_in, fell_behind, of_all, total}
 
 -- whether the line tells that a server is down
 abbrev pub is_down : Told → Bool
@@ -42,23 +42,33 @@ outlives standbys _ = false
 abbrev pub FellIn : ℕ → Line → ℕ → ℕ → List Told → Type 0
 FellIn standbys next before now told = before < now → (outlives standbys next ≡ true) × (list_any is_down told ≡ true)
 
--- an event was done: a work failed only where the count of faults rose, and there the lines tell that a server is down; and each entry
--- that was answered was worked once
-pub record UsesGroup (setup : Setup) (happened : ℕ → ℕ) (old new : List Entry) (told : List Told) (before after : Counters) : Type 0 where
+-- how many servers beside the active one are not down
+abbrev pub count_up : State Peers → ℕ
+count_up state = count_seats is_up state.peers.seats
+
+-- each entry that was answered was worked once, and as many servers went down as fell in these works: where the active one did, another
+-- one is active in its place
+pub record WorkedAll (device : Device) (old new : State Peers) (before after : Counters) : Type 0 where
+  pub dealt : Dealt device old.world.core.answered new.world.core.answered before after
+  pub downs : count_up old ≡ of_all downs_in dealt.deals + count_up new
+
+-- an event was done: a work failed only where the count of faults rose, and there the lines tell that a server is down
+pub record UsesGroup (setup : Setup) (happened : ℕ → ℕ) (old new : State Peers) (told : List Told) (before after : Counters) : Type 0 where
   pub caused : IsCaused before.faults after.faults happened
   pub later : before.faults ≤ after.faults
   pub felled : TellsDown before.faults after.faults told
-  pub dealt : Dealt (device_by setup happened) old new before after
+  pub worked : WorkedAll (device_by setup happened) old new before after
 
--- the works that were done up to a history, and the one in which the event ended
-pub record EndedIn (device : Device) (old now : List Entry) (before after : Counters) : Type 0 where
+-- the works that were done up to a history, and the one in which the event ended: the active server fell, and each standby that was left
+pub record EndedIn (device : Device) (old now : State Peers) (before after : Counters) : Type 0 where
   pub past : List Entry
   pub worked : Counters
-  pub dealt : Dealt device old past before worked
-  pub ending : Ending device past now worked after
+  pub dealt : Dealt device old.world.core.answered past before worked
+  pub ending : Ending device past now.world.core.answered worked after
+  pub downs : count_up old ≡ of_all downs_in dealt.deals + (length ending.row + count_up now)
 
 -- an event ended by a fault: the works that failed before it raised the count up to one between
-pub record FaultsGroup (setup : Setup) (happened : ℕ → ℕ) (old now : List Entry) (before after : Counters) : Type 0 where
+pub record FaultsGroup (setup : Setup) (happened : ℕ → ℕ) (old now : State Peers) (before after : Counters) : Type 0 where
   pub between : ℕ
   pub before_it : before.faults ≤ between
   pub caused : IsCaused before.faults between happened
@@ -66,13 +76,15 @@ pub record FaultsGroup (setup : Setup) (happened : ℕ → ℕ) (old now : List 
   pub rose : Rose between after.faults
   pub ended : EndedIn (device_by setup happened) old now before after
 
--- memory was wanting behind the works that were done, in whichever works the disk failed, and the history of the code is this
-pub record LacksGroup (setup : Setup) (old entries : List Entry) (armed : Bool) (before after : Counters) : Type 0 where
+-- memory was wanting behind the works that were done, in whichever works the disk failed, with this history left in the code. No more
+-- servers fell than were up
+pub record LacksGroup (setup : Setup) (old : State Peers) (entries : List Entry) (armed : Bool) (before after : Counters) : Type 0 where
   pub happened : ℕ → ℕ
   pub past : List Entry
   pub worked : Counters
-  pub dealt : Dealt (device_by setup happened) old past before worked
+  pub dealt : Dealt (device_by setup happened) old.world.core.answered past before worked
   pub lacked : LackedAt (device_by setup happened) entries past armed worked after
+  pub downs : of_all downs_in dealt.deals + downs_at lacked ≤ count_up old
 
 -- Behind a crash of the active server: the history that goes on, and the calls of the deeds that standbys keep, which is none where one of
 -- them keeps none.
@@ -92,16 +104,17 @@ kept_calls device state =
     else last_calls device (history_behind state)
 
 -- a standby took over, behind those that failed
-pub record Crashed (device : Device) (state : State Peers) (before after : Counters) : Type 0 where
+pub record Crashed (device : Device) (state new : State Peers) (before after : Counters) : Type 0 where
   pub row : List ℕ
+  pub downs : count_up state ≡ suc (length row) + count_up new
   pub fell : device.fails (length (history_behind state)) ≡ fell_behind row
   pub some : AllByRecursion (AreSome (kept_calls device state)) row
   pub spent : Spent (total row + kept_calls device state) (length row) 0 before after
 
 -- where the crash takes the active server down
-abbrev pub CountsCrash : Bool → Device → State Peers → Counters → Counters → Type 0
-CountsCrash true device state before after = Crashed device state before after
-CountsCrash false device state before after = Spent 0 0 0 before after
+abbrev pub CountsCrash : Bool → Device → (state new : State Peers) → Counters → Counters → Type 0
+CountsCrash true device state new before after = Crashed device state new before after
+CountsCrash false device state new before after = Spent 0 0 0 before after
 
 -- how many fell before the last one
 abbrev pub fell_first : List ℕ → ℕ
@@ -109,9 +122,9 @@ fell_first [] = 0
 fell_first (one ∷ row) = fell_behind row
 
 -- or all of them failed
-pub record CrashEnded (device : Device) (state : State Peers) (before after : Counters) : Type 0 where
+pub record CrashEnded (device : Device) (state new : State Peers) (before after : Counters) : Type 0 where
   pub row : List ℕ
-  pub over : 1 ≤ length row
+  pub downs : count_up state ≡ length row + count_up new
   pub fell : device.fails (length (history_behind state)) ≡ fell_first row
   pub some : AllByRecursion (AreSome (kept_calls device state)) row
   pub spent : Spent (total row) (length row) 0 before after
@@ -124,20 +137,18 @@ pub record CountsShown (next : Line) (held : Option Files) (before after : Count
 
 -- what a line makes the disk count that tells these files: the calls that it asks for, and no others
 abbrev pub CountsLine : Line → Device → Option Files → (old new : State Peers) → Counters → Counters → Type 0
-CountsLine line.Work device held old new before after =
-    Dealt device old.world.core.answered new.world.core.answered before after
-CountsLine line.Settle device held old new before after =
-    Dealt device old.world.core.answered new.world.core.answered before after
+CountsLine line.Work device held old new before after = WorkedAll device old new before after
+CountsLine line.Settle device held old new before after = WorkedAll device old new before after
 CountsLine (line.Crash server) device held old new before after =
-    CountsCrash (same_server server old.peers.acting && any_seat is_standby old.peers.seats) device old before after
+    CountsCrash (same_server server old.peers.acting && any_seat is_standby old.peers.seats) device old new before after
 CountsLine line.Files device held old new before after = CountsShown line.Files held before after
 CountsLine (line.Cat name) device held old new before after = CountsShown (line.Cat name) held before after
 CountsLine _ device held old new before after = Spent 0 0 0 before after
 
 -- and where a fault ends it
 abbrev pub CountsEnd : Line → Device → (old new : State Peers) → Counters → Counters → Type 0
-CountsEnd (line.Crash server) device old new before after = CrashEnded device old before after
-CountsEnd _ device old new before after = EndedIn device old.world.core.answered new.world.core.answered before after
+CountsEnd (line.Crash server) device old new before after = CrashEnded device old new before after
+CountsEnd _ device old new before after = EndedIn device old new before after
 
 -- the same of a line
 pub record UsesLine (setup : Setup) (next : Line) (happened : ℕ → ℕ) (state : State Peers) (outcome : Outcome (State Peers)) (held : Option Files)

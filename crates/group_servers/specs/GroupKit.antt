@@ -56,13 +56,13 @@ group_kit n = record {
   EndsAt = group_ends;
   Fell = λ setup state servers left. FellGroup setup state servers left.tally.armed;
   Uses = λ setup happened state outcome held left.
-      UsesGroup setup happened state.world.core.answered outcome.state.world.core.answered outcome.told (counters_of held) (counters_of left);
+      UsesGroup setup happened state outcome.state outcome.told (counters_of held) (counters_of left);
   Halts = λ setup happened state outcome held left.
-      UsesGroup setup happened state.world.core.answered outcome.state.world.core.answered outcome.told (counters_of held) (counters_of left);
+      UsesGroup setup happened state outcome.state outcome.told (counters_of held) (counters_of left);
   Faults = λ setup happened state end held left.
-      FaultsGroup setup happened state.world.core.answered end.state.world.core.answered (counters_of held) (counters_of left);
+      FaultsGroup setup happened state end.state (counters_of held) (counters_of left);
   Lacks = λ setup state entries servers held left.
-      LacksGroup setup state.world.core.answered entries servers.armed (counters_of held) (counters_of left);
+      LacksGroup setup state entries servers.armed (counters_of held) (counters_of left);
   Outlives = λ held left. held.faults ≤ left.faults;
   Rises = RisesGroup;
   Wild = λ servers net entries seen. ⊥;

@@ -14,7 +14,7 @@ use Rattle.event_text.specs.Texts.{printed}
 use Rattle.group_cluster.specs.Answering.{net_answering, lines_answering}
 use Rattle.cluster_events.proofs.Carrying.{IsTold}
 use Rattle.cluster_events.proofs.Telling.{Says-told}
-use Rattle.group_cluster.specs.Seats.{Seat, Peers, IsGroup, is_sent, is_took, any_seat, on_seats}
+use Rattle.group_cluster.specs.Seats.{Seat, Stance, Out, Owed, Linking, Standby, Peers, IsGroup, is_sent, is_took, is_up, any_seat, count_seats, on_seats}
 use Rattle.cluster_events.specs.Cores.{with_core}
 use Rattle.group_cluster.specs.Falling.{looked_at, taken_by, commitment}
 use Rattle.group_cluster.specs.Group.{sent_to, accept_group, group}
@@ -36,8 +36,9 @@ use Rattle.cluster_events.proofs.Devices.{rose-later}
 use Rattle.cluster_rounds.proofs.FilesSteps.{between-behind, left-between, left-both, left-same, left-told}
 use Rattle.cluster_rounds.specs.Seen.{counters_of}
 use Rattle.group_servers.specs.declared.group.Group.{Group}
+use Rattle.group_servers.specs.GroupCounts.{count_up}
 use Rattle.group_servers.specs.GroupKit.{group_kit}
-use Rattle.group_servers.specs.GroupUses.{faults-behind, lacks-behind, lacks-quiet, stood-later, uses-both, uses-none, uses-printed}
+use Rattle.group_servers.specs.GroupUses.{faults-behind, lacks-behind, lacks-quiet, stood-later, up-on, uses-both, uses-none, uses-printed}
 
 -- No step of the servers asks anything.
 
@@ -178,6 +179,19 @@ rests-answered n setup begun = refl
 rests-answered n setup (moved rests new core peers) = ap (λ (c : Core). c.answered) core ∙ rests-answered n setup rests
 rests-answered n setup (accepted rests entry empty) = rests-answered n setup rests
 
+-- nor does a server go down
+sent-up : (stance : Stance) → is_up (sent_to stance) ≡ is_up stance
+sent-up Out = refl
+sent-up Owed = refl
+sent-up (Linking sent) = refl
+sent-up (Standby on_way mark keeps) = refl
+
+pub rests-up : (n : ℕ) (setup : Setup) {state new : State Peers} → Rests (calm_servers (group_kit n) setup) state new
+    → count_up new ≡ count_up state
+rests-up n setup begun = refl
+rests-up n setup (moved rests new core peers) = ap (λ (p : Peers). count_seats is_up p.seats) peers ∙ rests-up n setup rests
+rests-up n setup (accepted {now = now} rests entry empty) = up-on sent_to sent-up now.peers.seats ∙ rests-up n setup rests
+
 pub group_laws : (n : ℕ) → IsKit (group_kit n)
 group_laws n = record {
   serves = λ plain device is_plain. group-serves plain device is_plain;
@@ -200,26 +214,26 @@ group_laws n = record {
   read_armed = λ peers one two beside read is. read.armed ∙ is;
   read_left = λ setup state one two beside read tells. read.files ∙ left-same setup state one.files tells;
   read_lacks = λ setup state entries servers one two beside ends read faults.
-      lacks-quiet setup state.world.core.answered entries servers.armed 0 (counters_of one) (counters_of two) ends read.changing faults read.stops;
+      lacks-quiet setup state entries servers.armed 0 (counters_of one) (counters_of two) ends read.changing faults read.stops;
   read_outlives = λ one two beside read faults. stood-later (counters_of one) (counters_of two) faults;
   read_rises = λ one two beside read later rose. record { later = later; rose = rose };
   unused = λ setup state outcome seen rests.
-      uses-none setup state.world.core.answered outcome.state.world.core.answered outcome.told (counters_of seen) (rests-answered n setup rests);
+      uses-none setup state outcome.state outcome.told (counters_of seen) (rests-answered n setup rests) (rests-up n setup rests);
   used_both = λ setup one two state first second held told left before after.
-      uses-both setup one two state.world.core.answered first.state.world.core.answered second.state.world.core.answered first.told second.told
+      uses-both setup one two state first.state second.state first.told second.told
       (counters_of held) (counters_of told) (counters_of left) before after;
   used_printed = λ setup happened state outcome held left uses.
-      uses-printed setup happened state.world.core.answered outcome.state.world.core.answered outcome.told (counters_of held) (counters_of left) uses;
+      uses-printed setup happened state outcome.state outcome.told (counters_of held) (counters_of left) uses;
   halts_behind = λ setup one two state first end held told left before after.
-      uses-both setup one two state.world.core.answered first.state.world.core.answered end.state.world.core.answered first.told end.told
+      uses-both setup one two state first.state end.state first.told end.told
       (counters_of held) (counters_of told) (counters_of left) before after;
   faults_behind = λ setup one two state first end held told left before after.
-      faults-behind setup one two state.world.core.answered first.state.world.core.answered end.state.world.core.answered first.told
+      faults-behind setup one two state first.state end.state first.told
       (counters_of held) (counters_of told) (counters_of left) before after;
   lacks_same = λ setup state entries servers seen ends.
-      lacks-quiet setup state.world.core.answered entries servers.armed 0 (counters_of seen) (counters_of seen) ends refl refl refl;
+      lacks-quiet setup state entries servers.armed 0 (counters_of seen) (counters_of seen) ends refl refl refl;
   lacks_behind = λ setup happened state first entries servers held told left before after.
-      lacks-behind setup happened state.world.core.answered first.state.world.core.answered first.told entries servers.armed
+      lacks-behind setup happened state first.state first.told entries servers.armed
       (counters_of held) (counters_of told) (counters_of left) before after;
   stands = λ seen. le_refl seen.faults;
   further = λ one two three first second. le_trans first second;

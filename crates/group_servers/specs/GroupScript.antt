@@ -25,9 +25,9 @@ use Rattle.cluster_rounds.specs.Seen.{counters_of}
 use Rattle.cluster_lines.specs.Following.{IsInHand, IsScript}
 use Rattle.cluster_lines.specs.Lines.{is_own, shows_files}
 use Rattle.cluster_lines.specs.Playing.{LooksBy}
-use Rattle.group_servers.specs.GroupCounts.{CountsLine, UsesGroup, UsesLine}
-use Rattle.group_servers.specs.GroupLaws.{rests-answered}
-use Rattle.group_servers.specs.GroupUses.{dealt-same, spent-none, stood-later, uses-printed}
+use Rattle.group_servers.specs.GroupCounts.{CountsLine, UsesGroup, UsesLine, count_up}
+use Rattle.group_servers.specs.GroupLaws.{rests-answered, rests-up}
+use Rattle.group_servers.specs.GroupUses.{spent-none, stood-later, uses-printed, worked-same}
 use Rattle.group_servers.specs.GroupKit.{group_ends, group_kit, group_script}
 
 shares : (plain : Plain) (shelf : Shelf) (device : Device) (next : Line) (state : State Peers) (outcome : Outcome (State Peers))
@@ -57,14 +57,15 @@ calm-uses setup next state outcome held left same counts = record {
 
 -- a line that is not the servers' own asks nothing of the disk, unless it shows files
 unasked-counts : (next : Line) (device : Device) (held : Option Files) (old new : State Peers) (seen : Counters) → is_own next ≡ false
-    → shows_files next ≡ false → new.world.core.answered ≡ old.world.core.answered → CountsLine next device held old new seen seen
-unasked-counts line.Work device held old new seen shared unshown same = cc
-unasked-counts (line.Crash server) device held old new seen shared unshown same = cc
-unasked-counts line.Settle device held old new seen shared unshown same =
-    dealt-same device old.world.core.answered new.world.core.answered seen same
-unasked-counts line.Files device held old new seen shared unshown same = cc
-unasked-counts (line.Cat name) device held old new seen shared unshown same = cc
-unasked-counts _ device held old new seen shared unshown same = spent-none seen
+    → shows_files next ≡ false → new.world.core.answered ≡ old.world.core.answered → count_up new ≡ count_up old
+    → CountsLine next device held old new seen seen
+unasked-counts line.Work device held old new seen shared unshown same up = cc
+unasked-counts (line.Crash server) device held old new seen shared unshown same up = cc
+unasked-counts line.Settle device held old new seen shared unshown same up =
+    worked-same device old new seen same up
+unasked-counts line.Files device held old new seen shared unshown same up = cc
+unasked-counts (line.Cat name) device held old new seen shared unshown same up = cc
+unasked-counts _ device held old new seen shared unshown same up = spent-none seen
 
 -- one that shows files reads them
 shown-counts : (next : Line) (device : Device) (old new : State Peers) (one two : DiskSeen) → LooksBy next one.files true one.tally two.tally
@@ -76,13 +77,13 @@ shown-counts _ device old new one two looks shown faults stops = cc
 
 -- what `settle` counted is what its line counted
 settled-uses : (setup : Setup) (happened : ℕ → ℕ) (state : State Peers) (outcome : Outcome (State Peers)) (held left : DiskSeen)
-    → UsesGroup setup happened state.world.core.answered outcome.state.world.core.answered outcome.told (counters_of held) (counters_of left)
+    → UsesGroup setup happened state outcome.state outcome.told (counters_of held) (counters_of left)
     → UsesLine setup line.Settle happened state outcome held.files (counters_of held) (counters_of left)
 settled-uses setup happened state outcome held left uses = record {
   caused = uses.caused;
   later = uses.later;
   felled = λ less. (refl, uses.felled less);
-  counts = uses.dealt;
+  counts = uses.worked;
 }
 
 pub group_follows : (n : ℕ) → IsScript (group_kit n) group_script
@@ -96,7 +97,7 @@ group_follows n = record {
   settled = λ setup happened state outcome held left uses. settled-uses setup happened state outcome held left uses;
   settle_halts = λ setup happened state end held left halts.
       settled-uses setup happened state (record { state = end.state; told = without is_ignored end.told }) held left
-      (uses-printed setup happened state.world.core.answered end.state.world.core.answered end.told (counters_of held) (counters_of left) halts);
+      (uses-printed setup happened state end.state end.told (counters_of held) (counters_of left) halts);
   settle_faults = λ setup happened state end held left faults. record {
     between = faults.between;
     before_it = faults.before_it;
@@ -107,7 +108,8 @@ group_follows n = record {
   };
   unused = λ next setup state outcome seen shared unshown rests.
       calm-uses setup next state outcome seen seen refl
-      (unasked-counts next (device_by setup (λ number. 0)) seen.files state outcome.state (counters_of seen) shared unshown (rests-answered n setup rests));
+      (unasked-counts next (device_by setup (λ number. 0)) seen.files state outcome.state (counters_of seen) shared unshown (rests-answered n setup rests)
+      (rests-up n setup rests));
   read = λ next setup state outcome one two beside looks shared shown read faults rests.
       calm-uses setup next state outcome one two faults
       (shown-counts next (device_by setup (λ number. 0)) state outcome.state one two looks shown faults read.stops);

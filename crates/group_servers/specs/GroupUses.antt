@@ -1,5 +1,5 @@
 -- What the disk of servers counted in events in a row.
-use Rattle.std.specs.Prelude.{◌≡◌, ℕ, zero, suc, ◌+◌, ◌<◌, ◌≤◌, Bool, ◌||◌, List, [], ◌∷◌, ◌++◌, length}
+use Rattle.std.specs.Prelude.{◌≡◌, ℕ, zero, suc, ◌+◌, ◌<◌, ◌≤◌, Bool, ◌||◌, if◌then◌else◌, Option, List, [], ◌∷◌, ◌++◌, length}
 use Rattle.std.proofs.Common.{inl, inr, refl, ap, sym, ◌∙◌, subst, arith, le_refl, le_trans}
 use Rattle.std.proofs.lemmas.Bool.{or_left, or_right}
 use Rattle.std.specs.List.{AllByRecursion, list_any}
@@ -11,13 +11,15 @@ use Rattle.plain_service.specs.Setups.{Setup}
 use Rattle.cluster_facts.specs.Lists.{EndsIn, without}
 use Rattle.cluster_facts.specs.Types.{Entry}
 use Rattle.cluster_events.specs.Lines.{Told, Ignored, is_ignored}
+use Rattle.cluster_events.specs.Servers.{State}
 use Rattle.cluster_events.specs.Devices.{AgreesIn, Device, spliced}
 use Rattle.cluster_events.proofs.Devices.{agrees-first, agrees-second, caused-both}
+use Rattle.group_cluster.specs.Seats.{Peers, Seat, Stance, count_seats, is_up, on_seats}
 use Rattle.cluster_rounds.specs.Kits.{device_by}
-use Rattle.group_servers.specs.Deals.{AreDeals, Deal, Dealt, Falling, IsWay, LackedAt, Quiet, RoseTimes, Spent}
-use Rattle.group_servers.specs.Deals.{calls_in, faults_by, faults_in, of_all, stops_in}
+use Rattle.group_servers.specs.Deals.{AreDeals, ArmedAlong, Deal, Dealt, Falling, IsWay, LackedAt, Quiet, RoseTimes, Spent}
+use Rattle.group_servers.specs.Deals.{calls_in, downs_at, downs_in, faults_by, faults_in, of_all, stops_in}
 use Rattle.group_servers.specs.Deals.AreDeals.{none, more}
-use Rattle.group_servers.specs.GroupCounts.{EndedIn, FaultsGroup, LacksGroup, TellsDown, UsesGroup, is_down}
+use Rattle.group_servers.specs.GroupCounts.{EndedIn, FaultsGroup, LacksGroup, TellsDown, UsesGroup, WorkedAll, count_up, is_down}
 
 -- Counts that rose.
 
@@ -68,6 +70,12 @@ spent-as a b f g s t before after calls fails halts spent = record {
   stops = subst (λ n. RoseTimes n before.stops after.stops) halts spent.stops;
 }
 
+-- Servers that are turned into others, each of which is up where it was, are as many.
+pub up-on : (change : Stance → Stance) → ((stance : Stance) → is_up (change stance) ≡ is_up stance) → (seats : List Seat)
+    → count_seats is_up (on_seats change seats) ≡ count_seats is_up seats
+up-on change same [] = refl
+up-on change same (seat ∷ seats) = λ i. (if same seat.stance i then 1 else 0) + up-on change same seats i
+
 -- Deals.
 
 sum-append : (count : Deal → ℕ) (one two : List Deal) → of_all count one + of_all count two ≡ of_all count (two ++ one)
@@ -100,48 +108,97 @@ all-both P one [] first second = first
 all-both P one (deal ∷ two) first second = (second.0, all-both P one two first second.1)
 
 pub dealt-none : (device : Device) (past : List Entry) (seen : Counters) → Dealt device past past seen seen
-dealt-none device past seen = record { deals = []; are = none; ways = tt; spent = spent-none seen }
+dealt-none device past seen = record { deals = []; are = none; ways = tt; spent = spent-none seen; armed = refl }
 
 -- of the same history, though it is said otherwise
 pub dealt-same : (device : Device) (past new : List Entry) (seen : Counters) → new ≡ past → Dealt device past new seen seen
-dealt-same device past new seen same =
-    subst (λ (history : List Entry). Dealt device past history seen seen) (sym same) (dealt-none device past seen)
+dealt-same device past new seen same = record {
+  deals = [];
+  are = subst (λ (history : List Entry). AreDeals past history []) (sym same) none;
+  ways = tt;
+  spent = spent-none seen;
+  armed = refl;
+}
 
-module _ (setup : Setup) (one two : ℕ → ℕ) (old middle : List Entry) (held between : Counters)
-    (before : Dealt (device_by setup one) old middle held between) where
+-- as many servers are up
+up-same : (old new : ℕ) → new ≡ old → old ≡ 0 + new
+up-same old new same = omega arith
+
+pub worked-same : (device : Device) (old new : State Peers) (seen : Counters) → new.world.core.answered ≡ old.world.core.answered
+    → count_up new ≡ count_up old → WorkedAll device old new seen seen
+worked-same device old new seen same up = record {
+  dealt = dealt-same device old.world.core.answered new.world.core.answered seen same;
+  downs = up-same (count_up old) (count_up new) up;
+}
+
+-- the armed count along works in a row
+armed-both : (calls : List Entry → Entry → ℕ) (one two : List Deal) (before between after : Option ℕ) → ArmedAlong calls one before between
+    → ArmedAlong calls two between after → ArmedAlong calls (two ++ one) before after
+armed-both calls one [] before between after first second =
+    subst (λ (armed : Option ℕ). ArmedAlong calls one before armed) (sym second) first
+armed-both calls one (deal ∷ two) before between after first second =
+    (second.0, armed-both calls one two before between second.0 first second.1, second.2)
+
+-- so many went down, and then so many more
+downs-both : (one two : List Deal) (first middle last : ℕ) → first ≡ of_all downs_in one + middle → middle ≡ of_all downs_in two + last
+    → first ≡ of_all downs_in (two ++ one) + last
+downs-both one two first middle last before after = let all = sum-append downs_in one two in omega arith
+
+downs-less : (one two : List Deal) (first middle last : ℕ) → first ≡ of_all downs_in one + middle → of_all downs_in two + last ≤ middle
+    → of_all downs_in (two ++ one) + last ≤ first
+downs-less one two first middle last before after = let all = sum-append downs_in one two in omega arith
+
+module _ (setup : Setup) (one two : ℕ → ℕ) (first middle : State Peers) (held between : Counters)
+    (before : WorkedAll (device_by setup one) first middle held between) where
+  abbrev past : List Entry
+  past = first.world.core.answered
+
+  abbrev behind_it : List Entry
+  behind_it = middle.world.core.answered
+
   abbrev both : ℕ → ℕ
-  both = spliced (length middle) one two
+  both = spliced (length behind_it) one two
 
-  dealt-both : (new : List Entry) (left : Counters) → Dealt (device_by setup two) middle new between left → Dealt (device_by setup both) old new held left
+  dealt-both : (new : List Entry) (left : Counters) → Dealt (device_by setup two) behind_it new between left
+      → Dealt (device_by setup both) past new held left
   dealt-both new left after =
       let device = device_by setup both in
-      let ones = before.deals in
+      let ones = before.dealt.deals in
       let twos = after.deals in
-      let less = deals-grow before.are in
+      let less = deals-grow before.dealt.are in
       let grown = deals-grow after.are in
       record {
         deals = twos ++ ones;
-        are = deals-both old middle new ones twos before.are after.are;
+        are = deals-both past behind_it new ones twos before.dealt.are after.are;
         ways =
-            let first = agrees-first (length old) (length middle) (length new) one two both grown (λ number above within. refl) in
-            let second = agrees-second (length old) (length middle) (length new) one two both less (λ number above within. refl) in
-            all-both (IsWay device) ones twos (ways-agree setup one both before.are first before.ways) (ways-agree setup two both after.are second after.ways);
+            let agrees = agrees-first (length past) (length behind_it) (length new) one two both grown (λ number above within. refl) in
+            let second = agrees-second (length past) (length behind_it) (length new) one two both less (λ number above within. refl) in
+            all-both (IsWay device) ones twos (ways-agree setup one both before.dealt.are agrees before.dealt.ways)
+            (ways-agree setup two both after.are second after.ways);
         spent =
             let calls = calls_in device in
             let all = spent-both (of_all calls ones) (of_all calls twos) (of_all faults_in ones) (of_all faults_in twos) (of_all stops_in ones)
-            (of_all stops_in twos) held between left before.spent after.spent
+            (of_all stops_in twos) held between left before.dealt.spent after.spent
             in
             spent-as _ _ _ _ _ _ held left (sum-append calls ones twos) (sum-append faults_in ones twos) (sum-append stops_in ones twos) all;
+        armed = armed-both device.calls ones twos held.tally.armed between.tally.armed left.tally.armed before.dealt.armed after.armed;
       }
 
-  -- the work behind a longer history is that of the second event
-  behind-is : (past : List Entry) → length middle ≤ length past → both (suc (length past)) ≡ two (suc (length past))
-  behind-is past grown =
-      agrees-second (length middle) (length middle) (suc (length past)) one two both (le_refl (length middle)) (λ number above within. refl)
-      (suc (length past)) (omega arith) (le_refl (suc (length past)))
+  worked-both : (new : State Peers) (left : Counters) → WorkedAll (device_by setup two) middle new between left
+      → WorkedAll (device_by setup both) first new held left
+  worked-both new left after = record {
+    dealt = dealt-both new.world.core.answered left after.dealt;
+    downs = downs-both before.dealt.deals after.dealt.deals (count_up first) (count_up middle) (count_up new) before.downs after.downs;
+  }
 
-  ended-both : (now : List Entry) (left : Counters) → EndedIn (device_by setup two) middle now between left
-      → EndedIn (device_by setup both) old now held left
+  -- the work behind a longer history is that of the second event
+  behind-is : (last : List Entry) → length behind_it ≤ length last → both (suc (length last)) ≡ two (suc (length last))
+  behind-is last grown =
+      agrees-second (length behind_it) (length behind_it) (suc (length last)) one two both (le_refl (length behind_it))
+      (λ number above within. refl) (suc (length last)) (omega arith) (le_refl (suc (length last)))
+
+  ended-both : (now : State Peers) (left : Counters) → EndedIn (device_by setup two) middle now between left
+      → EndedIn (device_by setup both) first now held left
   ended-both now left after =
       let ending = after.ending in
       record {
@@ -155,16 +212,26 @@ module _ (setup : Setup) (one two : ℕ → ℕ) (old middle : List Entry) (held
           row = ending.row;
           fell = behind-is after.past (deals-grow after.dealt.are) ∙ ending.fell;
           way = ending.way;
-          over = ending.over;
+          fallen = ending.fallen;
           spent = ending.spent;
+          armed = ending.armed;
         };
+        downs =
+            downs-both before.dealt.deals after.dealt.deals (count_up first) (count_up middle) (length ending.row + count_up now)
+            before.downs after.downs;
       }
 
-  lacked-both : (entries past : List Entry) (armed : Bool) (worked left : Counters) → length middle ≤ length past
-      → LackedAt (device_by setup two) entries past armed worked left → LackedAt (device_by setup both) entries past armed worked left
-  lacked-both entries past armed worked left grown (Quiet ends calls made faults stops) = Quiet ends calls made faults stops
-  lacked-both entries past armed worked left grown (Falling entry went row made ends fallen fell way some spent unarmed uncounted) =
-      Falling entry went row made ends fallen (behind-is past grown ∙ fell) way some spent unarmed uncounted
+  lacked-both : (entries last : List Entry) (armed : Bool) (worked left : Counters) → length behind_it ≤ length last
+      → LackedAt (device_by setup two) entries last armed worked left → LackedAt (device_by setup both) entries last armed worked left
+  lacked-both entries last armed worked left grown (Quiet ends calls made faults stops) = Quiet ends calls made faults stops
+  lacked-both entries last armed worked left grown (Falling entry went row made is fallen fell way some spent unarmed counted) =
+      Falling entry went row made is fallen (behind-is last grown ∙ fell) way some spent unarmed counted
+
+  lacked-downs : (entries last : List Entry) (armed : Bool) (worked left : Counters) (grown : length behind_it ≤ length last)
+      → (lacked : LackedAt (device_by setup two) entries last armed worked left)
+      → downs_at (lacked-both entries last armed worked left grown lacked) ≡ downs_at lacked
+  lacked-downs entries last armed worked left grown (Quiet ends calls made faults stops) = refl
+  lacked-downs entries last armed worked left grown (Falling entry went row made is fallen fell way some spent unarmed counted) = refl
 
 -- Lines that tell of a server that is down. Where the count of faults stood nothing is asked.
 
@@ -193,83 +260,97 @@ down-kept (line ∷ told) = ap (λ b. is_down line || b) (down-kept told)
 pub stood-later : (one two : Counters) → two.faults ≡ one.faults → one.faults ≤ two.faults
 stood-later one two same = subst (λ (n : ℕ). one.faults ≤ n) (sym same) (le_refl one.faults)
 
-pub uses-none : (setup : Setup) (past new : List Entry) (told : List Told) (seen : Counters) → new ≡ past
-    → UsesGroup setup (λ number. 0) past new told seen seen
-uses-none setup past new told seen same = record {
+pub uses-none : (setup : Setup) (old new : State Peers) (told : List Told) (seen : Counters)
+    → new.world.core.answered ≡ old.world.core.answered → count_up new ≡ count_up old → UsesGroup setup (λ number. 0) old new told seen seen
+uses-none setup old new told seen same up = record {
   caused = λ never number. refl;
   later = le_refl seen.faults;
   felled = down-none seen.faults told;
-  dealt = dealt-same (device_by setup (λ number. 0)) past new seen same;
+  worked = worked-same (device_by setup (λ number. 0)) old new seen same up;
 }
 
-pub uses-both : (setup : Setup) (one two : ℕ → ℕ) (old middle new : List Entry) (first second : List Told) (held between left : Counters)
+pub uses-both : (setup : Setup) (one two : ℕ → ℕ) (old middle new : State Peers) (first second : List Told) (held between left : Counters)
     → UsesGroup setup one old middle first held between → UsesGroup setup two middle new second between left
-    → UsesGroup setup (spliced (length middle) one two) old new (second ++ first) held left
+    → UsesGroup setup (spliced (length middle.world.core.answered) one two) old new (second ++ first) held left
 uses-both setup one two old middle new first second held between left before after = record {
-  caused = caused-both held.faults between.faults left.faults (length middle) one two before.later after.later before.caused after.caused;
+  caused =
+      caused-both held.faults between.faults left.faults (length middle.world.core.answered) one two before.later after.later
+      before.caused after.caused;
   later = le_trans before.later after.later;
   felled = down-both held.faults between.faults left.faults first second after.later before.felled after.felled;
-  dealt = dealt-both setup one two old middle held between before.dealt new left after.dealt;
+  worked = worked-both setup one two old middle held between before.worked new left after.worked;
 }
 
-pub uses-printed : (setup : Setup) (happened : ℕ → ℕ) (old new : List Entry) (told : List Told) (held left : Counters)
+pub uses-printed : (setup : Setup) (happened : ℕ → ℕ) (old new : State Peers) (told : List Told) (held left : Counters)
     → UsesGroup setup happened old new told held left → UsesGroup setup happened old new (without is_ignored told) held left
 uses-printed setup happened old new told held left uses = record {
   caused = uses.caused;
   later = uses.later;
   felled = λ less. down-kept told ∙ uses.felled less;
-  dealt = uses.dealt;
+  worked = uses.worked;
 }
 
-pub faults-behind : (setup : Setup) (one two : ℕ → ℕ) (old middle now : List Entry) (first : List Told) (held between left : Counters)
+pub faults-behind : (setup : Setup) (one two : ℕ → ℕ) (old middle now : State Peers) (first : List Told) (held between left : Counters)
     → UsesGroup setup one old middle first held between → FaultsGroup setup two middle now between left
-    → FaultsGroup setup (spliced (length middle) one two) old now held left
+    → FaultsGroup setup (spliced (length middle.world.core.answered) one two) old now held left
 faults-behind setup one two old middle now first held between left before after = record {
   between = after.between;
   before_it = le_trans before.later after.before_it;
-  caused = caused-both held.faults between.faults after.between (length middle) one two before.later after.before_it before.caused after.caused;
+  caused =
+      caused-both held.faults between.faults after.between (length middle.world.core.answered) one two before.later after.before_it
+      before.caused after.caused;
   behind_it = after.behind_it;
   rose = after.rose;
-  ended = ended-both setup one two old middle held between before.dealt now left after.ended;
+  ended = ended-both setup one two old middle held between before.worked now left after.ended;
 }
 
 -- Want of memory.
 
+none-down : (n : ℕ) → 0 + 0 ≤ n
+none-down n = omega arith
+
 -- no call failed, and the disk did not stop
-pub lacks-quiet : (setup : Setup) (past entries : List Entry) (armed : Bool) (calls : ℕ) (held left : Counters) → EndsIn entries past
-    → left.tally.changing ≡ many_more calls held.tally.changing → left.faults ≡ held.faults → left.stops ≡ held.stops
-    → LacksGroup setup past entries armed held left
-lacks-quiet setup past entries armed calls held left ends made faults stops = record {
+pub lacks-quiet : (setup : Setup) (state : State Peers) (entries : List Entry) (armed : Bool) (calls : ℕ) (held left : Counters)
+    → EndsIn entries state.world.core.answered → left.tally.changing ≡ many_more calls held.tally.changing → left.faults ≡ held.faults
+    → left.stops ≡ held.stops → LacksGroup setup state entries armed held left
+lacks-quiet setup state entries armed calls held left ends made faults stops = record {
   happened = λ number. 0;
-  past = past;
+  past = state.world.core.answered;
   worked = held;
-  dealt = dealt-none (device_by setup (λ number. 0)) past held;
+  dealt = dealt-none (device_by setup (λ number. 0)) state.world.core.answered held;
   lacked = Quiet ends calls made faults stops;
+  downs = none-down (count_up state);
 }
 
-pub lacks-behind : (setup : Setup) (happened : ℕ → ℕ) (old middle : List Entry) (first : List Told) (entries : List Entry) (armed : Bool)
+pub lacks-behind : (setup : Setup) (happened : ℕ → ℕ) (old middle : State Peers) (first : List Told) (entries : List Entry) (armed : Bool)
     (held between left : Counters) → UsesGroup setup happened old middle first held between → LacksGroup setup middle entries armed between left
     → LacksGroup setup old entries armed held left
-lacks-behind setup happened old middle first entries armed held between left before after = record {
-  happened = spliced (length middle) happened after.happened;
-  past = after.past;
-  worked = after.worked;
-  dealt = dealt-both setup happened after.happened old middle held between before.dealt after.past after.worked after.dealt;
-  lacked =
-      let grown = deals-grow after.dealt.are in
-      lacked-both setup happened after.happened old middle held between before.dealt entries after.past armed after.worked left grown after.lacked;
-}
+lacks-behind setup happened old middle first entries armed held between left before after =
+    let worked = before.worked in
+    let grown = deals-grow after.dealt.are in
+    let bound : ℕ → Type 0 = λ n. of_all downs_in (after.dealt.deals ++ worked.dealt.deals) + n ≤ count_up old in
+    record {
+      happened = spliced (length middle.world.core.answered) happened after.happened;
+      past = after.past;
+      worked = after.worked;
+      dealt = dealt-both setup happened after.happened old middle held between worked after.past after.worked after.dealt;
+      lacked = lacked-both setup happened after.happened old middle held between worked entries after.past armed after.worked left grown after.lacked;
+      downs =
+          subst bound
+          (sym (lacked-downs setup happened after.happened old middle held between worked entries after.past armed after.worked left grown after.lacked))
+          (downs-less worked.dealt.deals after.dealt.deals (count_up old) (count_up middle) (downs_at after.lacked) worked.downs after.downs);
+    }
 
 dealt-later : (device : Device) (old new : List Entry) (held left : Counters) → Dealt device old new held left → held.faults ≤ left.faults
 dealt-later device old new held left dealt = times-later (of_all faults_in dealt.deals) held.faults left.faults dealt.spent.faults
 
 lacked-later : (device : Device) (entries past : List Entry) (armed : Bool) (held left : Counters) → LackedAt device entries past armed held left → held.faults ≤ left.faults
 lacked-later device entries past armed held left (Quiet ends calls made faults stops) = stood-later held left faults
-lacked-later device entries past armed held left (Falling entry went row made ends fallen fell way some spent unarmed uncounted) =
+lacked-later device entries past armed held left (Falling entry went row made is fallen fell way some spent unarmed counted) =
     times-later (faults_by went + length row) held.faults left.faults spent.faults
 
-pub lacks-later : (setup : Setup) (past entries : List Entry) (armed : Bool) (held left : Counters) → LacksGroup setup past entries armed held left
-    → held.faults ≤ left.faults
-lacks-later setup past entries armed held left lacks =
-    le_trans (dealt-later (device_by setup lacks.happened) past lacks.past held lacks.worked lacks.dealt)
+pub lacks-later : (setup : Setup) (state : State Peers) (entries : List Entry) (armed : Bool) (held left : Counters)
+    → LacksGroup setup state entries armed held left → held.faults ≤ left.faults
+lacks-later setup state entries armed held left lacks =
+    le_trans (dealt-later (device_by setup lacks.happened) state.world.core.answered lacks.past held lacks.worked lacks.dealt)
     (lacked-later (device_by setup lacks.happened) entries lacks.past armed lacks.worked left lacks.lacked)

@@ -93,7 +93,7 @@ returns-then-any_standby-clause-ok g c =
     ] in
     let T : Node → Type 0 = λ node. TakesOver c.any_fresh-fresh.result c.take_over.result (record old.servers { active = node }) new before after mid left in
     let takes = subst T (c.in-Err-Failed.ensures.failed fails) (c.take_over.ensures before (sym (ap length c.as_slice-base.ensures.value)) c.in-Ok.ensures) in
-    falls-over g.row.N old new c.any_fresh-fresh.result before after held mid left c.requires.hand c.requires.ready c.any_fresh-fresh.ensures (some-next g.row.N old held (sym c.if-any_standby.ensures)) (failed broke.0 broke.1 cause.later (cause.rose fails) broke.2.1 unstopped) c.take_over.result takes
+    falls-over g.row.N old new c.any_fresh-fresh.result before after held mid left c.requires.hand c.requires.ready c.any_fresh-fresh.ensures (some-next g.row.N old held (sym c.if-any_standby.ensures)) (failed broke.0 broke.1 cause.later (cause.rose fails) broke.2 unstopped) c.take_over.result takes
 
 pub returns-then-any_standby-clause-err : goal.returns-then-any_standby-clause-err
 returns-then-any_standby-clause-err g c =
@@ -113,7 +113,7 @@ returns-then-any_standby-clause-err g c =
     ] in
     let T : Node → Type 0 = λ node. TakesOver c.any_fresh-fresh.result c.take_over.result (record old.servers { active = node }) new before after mid left in
     let takes = subst T (c.in-Err-Failed.ensures.failed fails) (c.take_over.ensures before (sym (ap length c.as_slice-base.ensures.value)) c.in-Ok.ensures) in
-    falls-off g.row.N old new c.any_fresh-fresh.result before after held mid left c.requires.hand c.requires.ready c.any_fresh-fresh.ensures (some-next g.row.N old held (sym c.if-any_standby.ensures)) (failed broke.0 broke.1 cause.later (cause.rose fails) broke.2.1 unstopped) c.take_over.result takes
+    falls-off g.row.N old new c.any_fresh-fresh.result before after held mid left c.requires.hand c.requires.ready c.any_fresh-fresh.ensures (some-next g.row.N old held (sym c.if-any_standby.ensures)) (failed broke.0 broke.1 cause.later (cause.rose fails) broke.2 unstopped) c.take_over.result takes
 
 -- there is none
 pub returns-else-any_standby-clause-err : goal.returns-else-any_standby-clause-err
@@ -164,7 +164,7 @@ returns-in-Err-Stopped-clause-ok g c =
     ] in
     let T : Node → Type 0 = λ node. TakesOver c.any_fresh-fresh.result again.result (record old.servers { active = node }) new before after mid left in
     let takes = subst T (c.in-Err-Stopped.ensures.stopped stops) (again.ensures before (sym (ap length c.as_slice-base.ensures.value)) c.in-Ok.ensures) in
-    falls-over g.row.N old new c.any_fresh-fresh.result before after held mid left c.requires.hand c.requires.ready c.any_fresh-fresh.ensures (stop-next g.row.N old held broke.0 broke.2.1) (stopped broke.0 broke.1 broke.2.1 stands broke.2.2 (stop.later, stop.rose stops)) again.result takes
+    falls-over g.row.N old new c.any_fresh-fresh.result before after held mid left c.requires.hand c.requires.ready c.any_fresh-fresh.ensures (stop-next g.row.N old held broke.0 broke.2.1) (stopped broke.0 broke.1 (broke.2.0, broke.2.1) stands broke.2.2 (stop.later, stop.rose stops)) again.result takes
 
 pub returns-in-Err-Stopped-clause-err : goal.returns-in-Err-Stopped-clause-err
 returns-in-Err-Stopped-clause-err g c =
@@ -185,4 +185,4 @@ returns-in-Err-Stopped-clause-err g c =
     ] in
     let T : Node → Type 0 = λ node. TakesOver c.any_fresh-fresh.result again.result (record old.servers { active = node }) new before after mid left in
     let takes = subst T (c.in-Err-Stopped.ensures.stopped stops) (again.ensures before (sym (ap length c.as_slice-base.ensures.value)) c.in-Ok.ensures) in
-    falls-off g.row.N old new c.any_fresh-fresh.result before after held mid left c.requires.hand c.requires.ready c.any_fresh-fresh.ensures (stop-next g.row.N old held broke.0 broke.2.1) (stopped broke.0 broke.1 broke.2.1 stands broke.2.2 (stop.later, stop.rose stops)) again.result takes
+    falls-off g.row.N old new c.any_fresh-fresh.result before after held mid left c.requires.hand c.requires.ready c.any_fresh-fresh.ensures (stop-next g.row.N old held broke.0 broke.2.1) (stopped broke.0 broke.1 (broke.2.0, broke.2.1) stands broke.2.2 (stop.later, stop.rose stops)) again.result takes
