@@ -158,9 +158,9 @@ other-one server old not = record {
   others = λ other apart up. ap (λ s. same_server other old.acting || is_up s) (stance-else other server apart old.seats) ∙ up;
 }
 
-active-crash : (device : Device) → ((number : ℕ) → device.fails number ≡ 0) → (server : Server) (standby : Bool) (state : State Peers) → same_server server state.peers.acting ≡ true → IsGroup state → any_seat is_standby state.peers.seats ≡ standby → ((crash_active device server standby state).state ≡ state) ⊎ CrashesOne server state.peers (crash_active device server standby state).state.peers
-active-crash device never server false state is good some = inl refl
-active-crash device never server true state is good some =
+active-crash : (size : ℕ) (device : Device) → ((number : ℕ) → device.fails number ≡ 0) → (server : Server) (standby : Bool) (state : State Peers) → same_server server state.peers.acting ≡ true → IsGroup size state → any_seat is_standby state.peers.seats ≡ standby → ((crash_active device server standby state).state ≡ state) ⊎ CrashesOne server state.peers (crash_active device server standby state).state.peers
+active-crash size device never server false state is good some = inl refl
+active-crash size device never server true state is good some =
     let hand = state.world.core.hand in
     let catching = catches state.peers.seats hand in
     let fresh = any_seat is_fresh (caught_seats catching state.peers.seats) in
@@ -177,10 +177,10 @@ other-crash server false Owed state not = inl refl
 other-crash server false (Linking sent) state not = inl refl
 other-crash server false (Standby on_way mark keeps) state not = inl refl
 
-by-crash : (device : Device) → ((number : ℕ) → device.fails number ≡ 0) → (server : Server) (active : Bool) (state : State Peers) → same_server server state.peers.acting ≡ active → IsGroup state → ((crash_by device server active state).state ≡ state) ⊎ CrashesOne server state.peers (crash_by device server active state).state.peers
-by-crash device never server true state is good = active-crash device never server (any_seat is_standby state.peers.seats) state is good refl
-by-crash device never server false state is good = other-crash server (is_served state.peers.armed (out_at server state.peers.seats)) (stance_of server state.peers.seats) state is
+by-crash : (size : ℕ) (device : Device) → ((number : ℕ) → device.fails number ≡ 0) → (server : Server) (active : Bool) (state : State Peers) → same_server server state.peers.acting ≡ active → IsGroup size state → ((crash_by device server active state).state ≡ state) ⊎ CrashesOne server state.peers (crash_by device server active state).state.peers
+by-crash size device never server true state is good = active-crash size device never server (any_seat is_standby state.peers.seats) state is good refl
+by-crash size device never server false state is good = other-crash server (is_served state.peers.armed (out_at server state.peers.seats)) (stance_of server state.peers.seats) state is
 
 pub crash-takes-one : CrashTakesOne
-crash-takes-one device never server state good =
-    by-crash device never server (same_server server state.peers.acting) state refl good
+crash-takes-one size device never server state good =
+    by-crash size device never server (same_server server state.peers.acting) state refl good

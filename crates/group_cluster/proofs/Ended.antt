@@ -62,11 +62,11 @@ lacks-last plain world past Empty entry is sound = cc
 lacks-last plain world past (Waiting other) entry is sound = cc
 lacks-last plain world past (Applied other) entry is sound = cc
 
-module _ (plain : Plain) (is_plain : IsPlain plain) (device : Device) where
+module _ (size : ℕ) (plain : Plain) (is_plain : IsPlain plain) (device : Device) where
   abbrev Tells : State Peers → Outcome (State Peers) → Type 0
-  Tells state outcome = IsSteady plain IsGroup outcome.state × Says plain state.world outcome.state.world outcome.told
+  Tells state outcome = IsSteady plain (IsGroup size) outcome.state × Says plain state.world outcome.state.world outcome.told
 
-  ended-keeps : (state : State Peers) (catching : Bool) → IsSteady plain IsGroup state → Tells state (ended_by catching state)
+  ended-keeps : (state : State Peers) (catching : Bool) → IsSteady plain (IsGroup size) state → Tells state (ended_by catching state)
   ended-keeps state catching steady =
       let bears = says-borne plain in
       let world = state.world in
@@ -76,20 +76,20 @@ module _ (plain : Plain) (is_plain : IsPlain plain) (device : Device) where
       let same : names_of (on_seats left_out seats) ≡ names_of state.peers.seats = names-on left_out seats ∙ names-caught catching state.peers.seats in
       let new = with_core (committed_by past (caught_hand catching hand)) Empty world in (
         record {
-          sound = over-sound plain is_plain device (Says plain) bears world past catching hand steady.sound;
+          sound = over-sound size plain is_plain device (Says plain) bears world past catching hand steady.sound;
           good = record {
             agree = all-made (Agree Empty) left_out left-agrees seats;
             waits = tt;
             armed = tt;
             apart = apart-on state.peers.acting left_out refl seats (apart-caught state.peers.acting catching state.peers.seats steady.good.apart);
-            names = subst AreNames (sym same) steady.good.names;
+            names = subst (AreNames size) (sym same) steady.good.names;
             acts = ap (is_named state.peers.acting) same ∙ steady.good.acts;
           };
         },
-        all-stood-go plain is_plain device (Says plain) bears world new role.Down (named is_standby seats) (Stood state.peers.acting role.Down ∷ caught_lines catching past hand) (over-down plain is_plain device (Says plain) bears world past catching hand state.peers.acting steady.sound),
+        all-stood-go size plain is_plain device (Says plain) bears world new role.Down (named is_standby seats) (Stood state.peers.acting role.Down ∷ caught_lines catching past hand) (over-down size plain is_plain device (Says plain) bears world past catching hand state.peers.acting steady.sound),
       )
 
-  pub ended-tells : (state : State Peers) → IsSteady plain IsGroup state → Tells state (ended state)
+  pub ended-tells : (state : State Peers) → IsSteady plain (IsGroup size) state → Tells state (ended state)
   ended-tells state steady = ended-keeps state (catches state.peers.seats state.world.core.hand) steady
 
   -- what is left where a work ends: nothing is in hand, and the last entry has no reply
@@ -102,7 +102,7 @@ module _ (plain : Plain) (is_plain : IsPlain plain) (device : Device) where
   ready-left state (Waiting entry) other is = cc
   ready-left state (Applied entry) other is = cc
 
-  work-tells : (state : State Peers) (end : Outcome (State Peers)) → IsSteady plain IsGroup state → EndsGroup device state end → Tells state end × IsLeft end.state
+  work-tells : (state : State Peers) (end : Outcome (State Peers)) → IsSteady plain (IsGroup size) state → EndsGroup device state end → Tells state end × IsLeft end.state
   work-tells state end steady ends =
       let past = state.world.core.answered in
       let hand = state.world.core.hand in
@@ -112,32 +112,32 @@ module _ (plain : Plain) (is_plain : IsPlain plain) (device : Device) where
       subst (λ (o : Outcome (State Peers)). Tells state o × IsLeft o.state) (sym ends.is) (ended-tells state steady, (refl, subst L (sym left) lacks))
 
   -- `settle`, with lines on messages without effect left out
-  settle-ends : (state : State Peers) (end : Outcome (State Peers)) → IsSteady plain IsGroup state → EndsSettle plain device state end → Tells state end × IsLeft end.state
+  settle-ends : (state : State Peers) (end : Outcome (State Peers)) → IsSteady plain (IsGroup size) state → EndsSettle plain device state end → Tells state end × IsLeft end.state
   settle-ends state end steady ends =
-      let whole = settle-tells plain is_plain (group plain device) IsGroup (group-serves plain device is_plain) (Says plain) (group-says plain device is_plain) (group-stepped plain is_plain device (Says plain) (says-borne plain))
+      let whole = settle-tells plain is_plain (group plain device) (IsGroup size) (group-serves size plain device is_plain) (Says plain) (group-says size plain device is_plain) (group-stepped size plain is_plain device (Says plain) (says-borne plain))
       IsLeft (EndsGroupStep plain device) (λ now last good step. work-tells now last good step.works) state ends.whole steady ends.ends in
       subst (λ (o : Outcome (State Peers)). Tells state o × IsLeft o.state) (sym ends.is) ((whole.0.0, Says-printed plain state.world ends.whole.state.world ends.whole.told whole.0.1), whole.1)
 
   -- the facts hold where the event of a line ends, its lines say what happened, and nothing is in hand
-  pub line-tells : (next : Line) (state : State Peers) (end : Outcome (State Peers)) → IsSteady plain IsGroup state → GroupEnds plain device next state end → Tells state end × (end.state.world.core.hand ≡ Empty)
+  pub line-tells : (next : Line) (state : State Peers) (end : Outcome (State Peers)) → IsSteady plain (IsGroup size) state → GroupEnds plain device next state end → Tells state end × (end.state.world.core.hand ≡ Empty)
   line-tells line.Work state end steady ends = let tells = work-tells state end steady ends in (tells.0, tells.1.0)
   line-tells (line.Crash server) state end steady ends =
       subst (λ (o : Outcome (State Peers)). Tells state o × (o.state.world.core.hand ≡ Empty)) (sym ends.is) (ended-tells state steady, refl)
   line-tells line.Settle state end steady ends = let tells = settle-ends state end steady ends in (tells.0, tells.1.0)
   line-tells _ state end steady ends = elim ends [ ]
 
-  pub line-lacks : (next : Line) (state : State Peers) (end : Outcome (State Peers)) → IsSteady plain IsGroup state → is_crash next ≡ false → GroupEnds plain device next state end → LacksLast end.state.world.core.answered (messages_in end.state.world.net)
+  pub line-lacks : (next : Line) (state : State Peers) (end : Outcome (State Peers)) → IsSteady plain (IsGroup size) state → is_crash next ≡ false → GroupEnds plain device next state end → LacksLast end.state.world.core.answered (messages_in end.state.world.net)
   line-lacks line.Work state end steady calm ends = (work-tells state end steady ends).1.1
   line-lacks line.Settle state end steady calm ends = (settle-ends state end steady ends).1.1
   line-lacks (line.Crash server) state end steady calm ends = cc
   line-lacks _ state end steady calm ends = elim ends [ ]
 
 pub end-keeps : EndKeepsPromises
-end-keeps plain is_plain shelf calls device others can now places first lines state told mark next end run ends =
+end-keeps size plain is_plain shelf calls device others can now places first lines state told mark next end run ends =
     let start = group_start others now places in
-    let said = any-says plain IsGroup (GroupStepBy plain shelf calls) (group-is-kept plain is_plain shelf calls) start first (start-steady plain others can now places) run in
-    let last = line-tells plain is_plain device next state end said.0 ends in
+    let said = any-says plain (IsGroup size) (GroupStepBy plain shelf calls) (group-is-kept size plain is_plain shelf calls) start first (start-steady size plain others can now places) run in
+    let last = line-tells size plain is_plain device next state end said.0 ends in
     at-end plain end.state.world (end.told ++ told) now places last.0.0.sound (Says-both plain start.world state.world end.state.world told end.told said.1 last.0.1)
 
 pub end-lacks : EndLacksReply
-end-lacks plain is_plain device next state end steady calm ends = line-lacks plain is_plain device next state end steady calm ends
+end-lacks size plain is_plain device next state end steady calm ends = line-lacks size plain is_plain device next state end steady calm ends

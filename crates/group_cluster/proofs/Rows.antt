@@ -1,8 +1,8 @@
--- Worked rows of two servers over a service that answers every call.
-use Rattle.std.proofs.Common.{◌≡◌, ℕ, Some, None, Bool, true, false, if◌then◌else◌, ◌&&◌, ◌==◌, pos, [], ◌∷◌, refl, codes}
+-- Worked rows of two servers, and of three, over a service that answers every call.
+use Rattle.std.proofs.Common.{◌≡◌, ℕ, Option, Some, None, Bool, true, false, if◌then◌else◌, ◌&&◌, ◌==◌, pos, [], ◌∷◌, refl, codes}
 use Rattle.script_lines.specs.declared.line.Line.TheVariants as line
 use Rattle.script_lines.specs.declared.line.Server.{Server}
-use Rattle.script_lines.specs.declared.line.Server.TheVariants.{A, B}
+use Rattle.script_lines.specs.declared.line.Server.TheVariants.{A, B, C}
 use Rattle.script_language.specs.Printing.{line_text}
 use Rattle.stream_config.specs.declared.attrs.StreamName.TheVariants.{System}
 use Rattle.record_print.specs.declared.record.Header.{Header}
@@ -13,8 +13,8 @@ use Rattle.cluster_facts.specs.Service.{Plain}
 use Rattle.cluster_events.specs.Lines.{Posted, Committed, Replied, HandedOut, Dispatched, Ignored, Refused, Stood}
 use Rattle.cluster_events.specs.declared.lines.Why.TheVariants as because
 use Rattle.cluster_events.specs.declared.lines.ServerRole.TheVariants.{Active, Armed, Standby, Joining, Down}
-use Rattle.cluster_events.specs.declared.lines.Roles.TheVariants.{Two}
-use Rattle.cluster_events.specs.Outcomes.{Outcome, and_then}
+use Rattle.cluster_events.specs.declared.lines.Roles.TheVariants.{Two, Three}
+use Rattle.cluster_events.specs.Outcomes.{Outcome, quietly, and_then}
 use Rattle.cluster_events.specs.Servers.{State, Servers, in_world}
 use Rattle.cluster_events.specs.Devices.{Device}
 use Rattle.cluster_events.specs.ClientEvents.{ask, dispatch_all}
@@ -22,7 +22,7 @@ use Rattle.cluster_events.specs.Events.{deliver, resend, mirror_next, ack_next, 
 use Rattle.cluster_events.specs.Settling.{round}
 use Rattle.group_cluster.specs.Seats.{Peers}
 use Rattle.group_cluster.specs.Falling.{crash as crash_on, arm, disarm, restart}
-use Rattle.group_cluster.specs.Group.{group, group_start}
+use Rattle.group_cluster.specs.Group.{group, group_start, mirror_at, ack_at}
 use Rattle.group_cluster.specs.Ended.{ended}
 
 abbrev same_message : Message → Message → Bool
@@ -56,6 +56,10 @@ header = Generic (record { vendor = 1; major = 2; minor = 3 }) (codes "safApp=we
 
 abbrev pub write : Call
 write = LogWrite System 7 1 (pos 0) header (codes "service started")
+
+abbrev or_same : Option (Outcome (State Peers)) → State Peers → Outcome (State Peers)
+or_same None state = quietly state
+or_same (Some outcome) state = outcome
 
 abbrev ask_for : Ask → State Peers → Outcome (State Peers)
 ask_for asked state = in_world (ask ready 1 asked) state
@@ -244,3 +248,92 @@ module _ (notification : Notification) (filters : FilterSet) where
 
   pub called_once : (in_world (dispatch_all 1) told_once).told ≡ Dispatched 1 1 ∷ HandedOut 1 1 (Notified 9 notification) ∷ []
   called_once = refl
+
+-- Three servers.
+
+abbrev trio : State Peers
+trio = group_start (B ∷ C ∷ []) (pos 5) 8
+
+-- a call is answered, and a write sent
+abbrev trio_begun : State Peers
+trio_begun = (round ready calm (ask_for (Start Log (record { release = 65; major = 2; minor = 1 })) trio).state).state
+
+abbrev trio_sent : State Peers
+trio_sent = (ask_for (Other write) trio_begun).state
+
+-- an entry goes to both standbys, and is committed once
+pub trio_settles : (round ready calm trio_sent).told ≡ Replied 1 2 write Done ∷ Posted 4 (Answer 1 2 Done) ∷ Committed 2 (Called 1 2 (pos 5) write) ∷ []
+trio_settles = refl
+
+-- two servers crash one after another, and the third answers
+abbrev first_crash : Outcome (State Peers)
+first_crash = crash A (round ready calm trio_sent).state
+
+abbrev second_crash : Outcome (State Peers)
+second_crash = crash B first_crash.state
+
+pub first_tells : first_crash.told ≡ Stood B Active ∷ Stood A Down ∷ []
+first_tells = refl
+
+pub second_tells : second_crash.told ≡ Stood C Active ∷ Stood B Down ∷ []
+second_tells = refl
+
+pub third_answers : (round ready calm (ask_for (Other write) second_crash.state).state).told ≡ Replied 1 3 write Done ∷ Posted 6 (Answer 1 3 Done) ∷ Committed 3 (Called 1 3 (pos 5) write) ∷ []
+third_answers = refl
+
+pub trio_listed : (list_servers calm second_crash.state).told ≡ Stood C Active ∷ Stood B Down ∷ Stood A Down ∷ []
+trio_listed = refl
+
+-- an armed server is not in service, so the last standby may not crash; the other one may, and the arm stays
+pub last_standby : (crash C (arm A 5 (crash B trio).state).state).told ≡ Refused (line_text (line.Crash C)) (record { roles = Three Armed Down Standby; net = 0; link = 0; back = 0; in_hand = None }) ∷ []
+last_standby = refl
+
+pub arm_stays : (list_servers calm (crash B (arm A 5 trio).state).state).told ≡ Stood C Standby ∷ Stood B Down ∷ Stood A Armed ∷ []
+arm_stays = refl
+
+-- a standby applied the waiting entry: the other one applies it too, and it is committed; the first in order takes over
+abbrev half : State Peers
+half = (and_then (deliver ready calm 3 trio_sent) (λ now. or_same (mirror_at C now) now)).state
+
+pub half_catches : (crash A half).told ≡ Stood B Active ∷ Stood A Down ∷ Committed 2 (Called 1 2 (pos 5) write) ∷ []
+half_catches = refl
+
+pub half_answers : (resend ready calm 1 (crash A half).state).told ≡ Posted 4 (Answer 1 2 Done) ∷ []
+half_answers = refl
+
+-- none applied it: it is gone. A standby that joined since takes over before one that keeps deeds, and a server that joins is standby then
+abbrev later_joins : State Peers
+later_joins = (and_then (restart B (crash B (round ready calm trio_sent).state).state) (mirror_next calm)).state
+
+pub fresh_first : (crash A later_joins).told ≡ Stood B Active ∷ Stood A Down ∷ []
+fresh_first = refl
+
+pub joins_at_once : (crash A (restart B (crash B (round ready calm trio_sent).state).state).state).told ≡ Stood B Standby ∷ Stood C Active ∷ Stood A Down ∷ []
+joins_at_once = refl
+
+pub fresh_last : (crash A (and_then (restart C (crash C (round ready calm trio_sent).state).state) (mirror_next calm)).state).told ≡ Stood C Active ∷ Stood A Down ∷ []
+fresh_last = refl
+
+-- the active server fails in a work, and so does the first standby as it takes over
+abbrev fall_twice : Servers Peers
+fall_twice = group ready (device (λ number. if number == 2 then 2 else 0))
+
+pub twice_tells : (round ready fall_twice trio_sent).told ≡ Stood C Active ∷ Stood B Down ∷ Stood A Down ∷ Committed 2 (Called 1 2 (pos 5) write) ∷ []
+twice_tells = refl
+
+pub all_fall : (ended (deliver ready calm 3 trio_sent).state).told ≡ Stood C Down ∷ Stood B Down ∷ Stood A Down ∷ []
+all_fall = refl
+
+-- a message goes to one server alone, and comes from it
+pub at_none : mirror_at C half ≡ None
+at_none = refl
+
+pub at_others : (or_same (ack_at B half) half).told ≡ []
+at_others = refl
+
+pub at_last : (or_same (mirror_at B half) half).told ≡ Committed 2 (Called 1 2 (pos 5) write) ∷ []
+at_last = refl
+
+-- `restart` of a server that is none of the servers is refused
+pub none_joins : (restart C start).told ≡ Refused (line_text (line.Restart C)) (record { roles = Two Active Standby; net = 0; link = 0; back = 0; in_hand = None }) ∷ []
+none_joins = refl

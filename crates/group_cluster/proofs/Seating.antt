@@ -9,7 +9,7 @@ use Rattle.cluster_events.specs.Lines.{Told, Stood}
 use Rattle.cluster_events.specs.declared.lines.ServerRole.TheVariants as role
 use Rattle.group_cluster.specs.Seats.{Mark, Clear, Sent, Took, Stance, Out, Owed, Linking, Standby, Seat, is_standby, is_sent, is_took, any_seat, on_seats, Agree, WaitsFor, IsApart, AreNames, names_of, same_server}
 use Rattle.group_cluster.specs.Falling.{taken_by, looked_at, set_at, out_at, rejoined, felled, joining_by, back_by, caught, caught_seats}
-use Rattle.group_cluster.specs.Group.{sent_to, Turn, mirrored, confirmed, turned_or, first_turn, linked}
+use Rattle.group_cluster.specs.Group.{sent_to, Turn, mirrored, confirmed, only, turned_or, first_turn, linked}
 
 -- Of all seats.
 
@@ -65,8 +65,27 @@ names-long : (seats : List Seat) → length (names_of seats) ≡ length seats
 names-long [] = refl
 names-long (seat ∷ seats) = ap suc (names-long seats)
 
-pub few-seats : (seats : List Seat) → AreNames (names_of seats) → length seats ≤ 3
-few-seats seats two = let long = sym (names-long seats) ∙ ap length two in omega arith
+-- two servers or three: what holds of the names of both holds of the servers' names
+pub by-names : (P : List Server → Type 0) → P (A ∷ B ∷ []) → P (A ∷ B ∷ C ∷ []) → (size : ℕ) (names : List Server) → AreNames size names → P names
+by-names P two three zero names are = elim are [ ]
+by-names P two three (suc zero) names are = elim are [ ]
+by-names P two three (suc (suc zero)) names are = subst P (sym are) two
+by-names P two three (suc (suc (suc zero))) names are = subst P (sym are) three
+by-names P two three (suc (suc (suc (suc more)))) names are = elim are [ ]
+
+-- they are so many
+pub size-is : (size : ℕ) (seats : List Seat) → AreNames size (names_of seats) → length seats ≡ size
+size-is zero seats are = elim are [ ]
+size-is (suc zero) seats are = elim are [ ]
+size-is (suc (suc zero)) seats are = sym (names-long seats) ∙ ap length are
+size-is (suc (suc (suc zero))) seats are = sym (names-long seats) ∙ ap length are
+size-is (suc (suc (suc (suc more)))) seats are = elim are [ ]
+
+pub few-seats : (size : ℕ) (seats : List Seat) → AreNames size (names_of seats) → length seats ≤ 3
+few-seats size seats are =
+    let long = names-long seats in
+    let few = by-names (λ (names : List Server). length names ≤ 3) (omega arith) (omega arith) size (names_of seats) are in
+    omega arith
 
 pub any-on : (test : Stance → Bool) (change : Stance → Stance) → ((stance : Stance) → test (change stance) ≡ test stance) → (seats : List Seat) → any_seat test (on_seats change seats) ≡ any_seat test seats
 any-on test change same [] = refl
@@ -342,6 +361,16 @@ mirrored-turns past hand = leaves-turns hand (mirrored past) (mirrored-leaves pa
 
 pub confirmed-turns : (hand : Hand) → IsTurning hand confirmed
 confirmed-turns hand = leaves-turns hand confirmed (confirmed-leaves hand)
+
+pub only-turns : (hand : Hand) (one : Server) (turn : Turn) → IsTurning hand turn → IsTurning hand (only one turn)
+only-turns hand one turn turns server stance found =
+    let S : Bool → Type 0 = λ b. (if b then turn server stance else None) ≡ Some found → Agree hand stance → Turns hand (only one turn) server stance found in
+    elim (same_server one server) as S [
+      | true ↦ λ is agree.
+          let leaves = turns server stance found is agree in
+          record { agree = leaves.agree; standby = leaves.standby; shown = leaves.shown; fewer = leaves.fewer; roles = leaves.roles }
+      | false ↦ λ is agree. cc
+    ]
 
 -- What a turn of one server leaves of all.
 pub record TurnsAll (hand : Hand) (acting : Server) (old new : List Seat) (told : List Told) : Type 0 where

@@ -33,8 +33,8 @@ sent-armed : (armed : Option ℕ) (seats : List Seat) → IsArmed armed seats �
 sent-armed None seats is = tt
 sent-armed (Some left) seats is = (is.0, any-on is_standby sent_to sent-standby seats ∙ is.1)
 
-pub accepts-good : (entry : Entry) (state : State Peers) → state.world.core.hand ≡ Empty → IsGroup state → IsGroup (accept_group entry state).state
-accepts-good entry state empty good =
+pub accepts-good : (size : ℕ) (entry : Entry) (state : State Peers) → state.world.core.hand ≡ Empty → IsGroup size state → IsGroup size (accept_group entry state).state
+accepts-good size entry state empty good =
     let seats = state.peers.seats in
     let sent = on_seats sent_to seats in
     let seated = looked-seated sent (Waiting entry) (all-on (Agree Empty) (Agree (Waiting entry)) sent_to (sent-agrees entry) seats (agree-hand state.world.core.hand seats empty good.agree)) in
@@ -44,14 +44,14 @@ accepts-good entry state empty good =
       waits = seated.waits;
       armed = sent-armed state.peers.armed seats good.armed;
       apart = apart-on state.peers.acting sent_to refl seats good.apart;
-      names = subst AreNames (sym same) good.names;
+      names = subst (AreNames size) (sym same) good.names;
       acts = ap (is_named state.peers.acting) same ∙ good.acts;
     }
 
-accepts-by : (entry : Entry) (state : State Peers) → state.world.core.hand ≡ Empty → IsGroup state → Accepts IsGroup entry state (accept_group entry state).state
-accepts-by entry state empty good =
+accepts-by : (size : ℕ) (entry : Entry) (state : State Peers) → state.world.core.hand ≡ Empty → IsGroup size state → Accepts (IsGroup size) entry state (accept_group entry state).state
+accepts-by size entry state empty good =
     let sent = on_seats sent_to state.peers.seats in
-    record { hand = looked_at sent (Waiting entry); accepted = looked-accepts state.world.core.answered sent (Waiting entry); world = refl; good = accepts-good entry state empty good }
+    record { hand = looked_at sent (Waiting entry); accepted = looked-accepts state.world.core.answered sent (Waiting entry); world = refl; good = accepts-good size entry state empty good }
 
 -- it waits, or its line is told
 accept-tells : (entry : Entry) (state : State Peers) → IsWaiting (accept_group entry state).state.world.core.hand ⊎ (is_loud (accept_group entry state).told ≡ true)
@@ -72,10 +72,10 @@ rest-done : (old new : State Peers) → new.world.core.hand ≡ Empty → accept
 rest-done old new empty done = sym (ap (λ (hand : Hand). accepted_by new.world.core.answered hand) empty) ∙ done
 
 -- **the servers serve as servers must**, by any relation that their steps keep
-module _ (plain : Plain) (is_plain : IsPlain plain) (device : Device) (R : World → World → List Told → Type 0) (bears : Bears plain R) where
-  drains-by : (state : State Peers) → IsSteady plain IsGroup state → Drains plain IsGroup state (drain (group plain device) state).state
+module _ (size : ℕ) (plain : Plain) (is_plain : IsPlain plain) (device : Device) (R : World → World → List Told → Type 0) (bears : Bears plain R) where
+  drains-by : (state : State Peers) → IsSteady plain (IsGroup size) state → Drains plain (IsGroup size) state (drain (group plain device) state).state
   drains-by state steady =
-      let rests = group-rests plain is_plain device R bears state steady.good in
+      let rests = group-rests size plain is_plain device R bears state steady.good in
       record {
         empty = rests.empty;
         done = rest-done state (drain (group plain device) state).state rests.empty rests.steps.done;
@@ -85,11 +85,11 @@ module _ (plain : Plain) (is_plain : IsPlain plain) (device : Device) (R : World
         idle = rests.steps.idle;
       }
 
-  commits-by : (entry : Entry) (state : State Peers) → state.world.core.hand ≡ Empty → IsGroup state → is_loud ((drain (group plain device) (accept_group entry state).state).told ++ (accept_group entry state).told) ≡ true
+  commits-by : (entry : Entry) (state : State Peers) → state.world.core.hand ≡ Empty → IsGroup size state → is_loud ((drain (group plain device) (accept_group entry state).state).told ++ (accept_group entry state).told) ≡ true
   commits-by entry state empty good =
       let accept = accept_group entry state in
       let drained = drain (group plain device) accept.state in
-      let rests = group-rests plain is_plain device R bears accept.state (accepts-good entry state empty good) in
+      let rests = group-rests size plain is_plain device R bears accept.state (accepts-good size entry state empty good) in
       elim (accept-tells entry state) [
         | inl waits ↦ elim (rests.steps.tells waits) [
           | inl still ↦ absurd (rest-not drained.state.world.core.hand rests.empty still)
@@ -98,7 +98,7 @@ module _ (plain : Plain) (is_plain : IsPlain plain) (device : Device) (R : World
         | inr loud ↦ loud-behind drained.told accept.told loud
       ]
 
-  pub serves-by : IsServing plain (group plain device) IsGroup
+  pub serves-by : IsServing plain (group plain device) (IsGroup size)
   serves-by = record {
     front = λ state world core good. record {
       agree = subst (λ (c : Core). AllByRecursion (λ (seat : Seat). Agree c.hand seat.stance) state.peers.seats) (sym core) good.agree;
@@ -108,7 +108,7 @@ module _ (plain : Plain) (is_plain : IsPlain plain) (device : Device) (R : World
       names = good.names;
       acts = good.acts;
     };
-    accepts = accepts-by;
+    accepts = accepts-by size;
     drains = drains-by;
     commits = commits-by;
   }
@@ -124,33 +124,33 @@ module _ (plain : Plain) (is_plain : IsPlain plain) (device : Device) (R : World
       let new = with_core past (looked_at sent (Waiting entry)) state.world in
       let lines = commitment sent past (Waiting entry) in
       subst (λ (told : List Told). R old new told) (append-nil lines)
-      (bears.both old waits new [] lines (bears.taken state.world past entry at) (looked-goes plain is_plain device R bears state.world past sent (Waiting entry) sound))
+      (bears.both old waits new [] lines (bears.taken state.world past entry at) (looked-goes size plain is_plain device R bears state.world past sent (Waiting entry) sound))
   accept-hand entry state (Waiting other) empty at sound = cc
   accept-hand entry state (Applied other) empty at sound = cc
   accept-hand entry state (Ready other) empty at sound = cc
 
-  pub accept-kept : (entry : Entry) (state : State Peers) → IsSteady plain IsGroup state → state.world.core.hand ≡ Empty → MayFollow plain state.world.core.answered entry → time_of entry ≡ state.world.now → Stands (message_of entry) (messages_in state.world.net) → R state.world (accept_group entry state).state.world (accept_group entry state).told
+  pub accept-kept : (entry : Entry) (state : State Peers) → IsSteady plain (IsGroup size) state → state.world.core.hand ≡ Empty → MayFollow plain state.world.core.answered entry → time_of entry ≡ state.world.now → Stands (message_of entry) (messages_in state.world.net) → R state.world (accept_group entry state).state.world (accept_group entry state).told
   accept-kept entry state steady empty may at stands =
       accept-hand entry state state.world.core.hand empty at (accept-sound plain entry (Waiting entry) state.world empty refl may at stands steady.sound)
 
   -- a relation that the clients' side keeps too is carried through rounds
-  pub group-carries : IsTold plain R → IsCarried plain (group plain device) IsGroup R
-  group-carries told = told-carried plain (group plain device) IsGroup R told accept-kept (λ state steady. ((group-rests plain is_plain device R bears state steady.good).steps.goes steady.sound).1)
+  pub group-carries : IsTold plain R → IsCarried plain (group plain device) (IsGroup size) R
+  group-carries told = told-carried plain (group plain device) (IsGroup size) R told accept-kept (λ state steady. ((group-rests size plain is_plain device R bears state steady.good).steps.goes steady.sound).1)
 
   -- Their steps, one by one.
 
-  pub stepped-by : (step : State Peers → Option (Outcome (State Peers))) → StepLeaves plain is_plain device R bears step → IsStepped plain IsGroup R step
+  pub stepped-by : (step : State Peers → Option (Outcome (State Peers))) → StepLeaves size plain is_plain device R bears step → IsStepped plain (IsGroup size) R step
   stepped-by step leaves = record {
     steps = λ state outcome is steady.
-        let L : Option (Outcome (State Peers)) → Type 0 = λ found. Leaves plain is_plain device R bears state found in
-        let nears : Nears plain R state outcome = subst L is (leaves state steady.good) in
+        let L : Option (Outcome (State Peers)) → Type 0 = λ found. Leaves size plain is_plain device R bears state found in
+        let nears : Nears size plain R state outcome = subst L is (leaves state steady.good) in
         let goes = nears.steps.goes steady.sound in
         (record { sound = goes.0; good = nears.steps.good }, goes.1);
   }
 
-  pub group-stepped : AreStepped plain (group plain device) IsGroup R
+  pub group-stepped : AreStepped plain (group plain device) (IsGroup size) R
   group-stepped = record {
-    mirror = stepped-by mirror_group (mirror-steps plain is_plain device R bears);
-    ack = stepped-by ack_group (ack-steps plain is_plain device R bears);
-    work = stepped-by (group plain device).work (work-steps plain is_plain device R bears);
+    mirror = stepped-by mirror_group (mirror-steps size plain is_plain device R bears);
+    ack = stepped-by ack_group (ack-steps size plain is_plain device R bears);
+    work = stepped-by (group plain device).work (work-steps size plain is_plain device R bears);
   }

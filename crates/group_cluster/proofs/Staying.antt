@@ -223,27 +223,27 @@ still : (old : Peers) → StayUp old old
 still old = stays-up old old (stays-still old)
 
 -- what the steps of the servers keep, every line keeps that is none on failing servers
-module _ (plain : Plain) (is_plain : IsPlain plain) (shelf : Shelf) (device : Device) (Also : Peers → Type 0) (lasting : IsLasting (group plain device) Also) where
-  also-kept : (next : Line) (state : State Peers) (outcome : Outcome (State Peers)) → IsSteady plain IsGroup state → Also state.peers → Happens plain shelf (group plain device) next state outcome → Also outcome.state.peers
+module _ (size : ℕ) (plain : Plain) (is_plain : IsPlain plain) (shelf : Shelf) (device : Device) (Also : Peers → Type 0) (lasting : IsLasting (group plain device) Also) where
+  also-kept : (next : Line) (state : State Peers) (outcome : Outcome (State Peers)) → IsSteady plain (IsGroup size) state → Also state.peers → Happens plain shelf (group plain device) next state outcome → Also outcome.state.peers
   also-kept next state outcome steady also happens =
       let servers = group plain device in
-      let both = Both plain servers IsGroup Also lasting in
-      let serving = serving-also plain servers IsGroup Also lasting (group-serves plain device is_plain) in
-      let saying = carried-also plain servers IsGroup Also lasting (Says plain) (group-says plain device is_plain) in
-      let stepped = stepped-also plain servers IsGroup Also lasting (Says plain) (group-stepped plain is_plain device (Says plain) (says-borne plain)) in
+      let both = Both plain servers (IsGroup size) Also lasting in
+      let serving = serving-also plain servers (IsGroup size) Also lasting (group-serves size plain device is_plain) in
+      let saying = carried-also plain servers (IsGroup size) Also lasting (Says plain) (group-says size plain device is_plain) in
+      let stepped = stepped-also plain servers (IsGroup size) Also lasting (Says plain) (group-stepped size plain is_plain device (Says plain) (says-borne plain)) in
       (happens-kept plain is_plain shelf servers both serving saying stepped next state outcome (record { sound = steady.sound; good = (steady.good, also) }) happens).0.good.1
 
 none-some : (armed : Option ℕ) → armed ≡ None → IsSome armed → ⊥
 none-some None none some = let no : false ≡ true = some in absurd cc
 none-some (Some left) none some = absurd cc
 
-module _ (plain : Plain) (is_plain : IsPlain plain) (shelf : Shelf) (device : Device) (never : (number : ℕ) → device.fails number ≡ 0) where
-  others-stay : (armed : Option ℕ) (next : Line) (state : State Peers) (outcome : Outcome (State Peers)) → state.peers.armed ≡ armed → IsSteady plain IsGroup state → Happens plain shelf (group plain device) next state outcome → (IsSome armed → IsSome outcome.state.peers.armed) → StayUp state.peers outcome.state.peers
+module _ (size : ℕ) (plain : Plain) (is_plain : IsPlain plain) (shelf : Shelf) (device : Device) (never : (number : ℕ) → device.fails number ≡ 0) where
+  others-stay : (armed : Option ℕ) (next : Line) (state : State Peers) (outcome : Outcome (State Peers)) → state.peers.armed ≡ armed → IsSteady plain (IsGroup size) state → Happens plain shelf (group plain device) next state outcome → (IsSome armed → IsSome outcome.state.peers.armed) → StayUp state.peers outcome.state.peers
   others-stay None next state outcome armed steady happens short =
-      let after = also-kept plain is_plain shelf device (Unarmed state.peers) (unarmed-lasts plain device state.peers never) next state outcome steady (stays-still state.peers, armed) happens in
+      let after = also-kept size plain is_plain shelf device (Unarmed state.peers) (unarmed-lasts plain device state.peers never) next state outcome steady (stays-still state.peers, armed) happens in
       stays-up state.peers outcome.state.peers after.0
   others-stay (Some left) next state outcome armed steady happens short =
-      let after : StaysOrUnarmed state.peers outcome.state.peers = also-kept plain is_plain shelf device (StaysOrUnarmed state.peers) (armed-lasts plain device state.peers) next state outcome steady (inl (stays-still state.peers)) happens in
+      let after : StaysOrUnarmed state.peers outcome.state.peers = also-kept size plain is_plain shelf device (StaysOrUnarmed state.peers) (armed-lasts plain device state.peers) next state outcome steady (inl (stays-still state.peers)) happens in
       elim after [
         | inl stays ↦ stays-up state.peers outcome.state.peers stays
         | inr none ↦ absurd (none-some outcome.state.peers.armed none (short refl))
@@ -266,12 +266,12 @@ restart-stays server true state =
 restart-stays server false state = still state.peers
 
 pub servers-stay-up : ServersStayUp
-servers-stay-up plain is_plain shelf device never (line.Crash server) state outcome steady calm happens short = cc
-servers-stay-up plain is_plain shelf device never (line.Arm server count) state outcome steady calm happens short =
+servers-stay-up size plain is_plain shelf device never (line.Crash server) state outcome steady calm happens short = cc
+servers-stay-up size plain is_plain shelf device never (line.Arm server count) state outcome steady calm happens short =
     subst (λ (o : Outcome (State Peers)). StayUp state.peers o.state.peers) (sym happens.1) (arm-stays server count (same_server server state.peers.acting && any_seat is_standby state.peers.seats) state)
-servers-stay-up plain is_plain shelf device never line.Disarm state outcome steady calm happens short =
+servers-stay-up size plain is_plain shelf device never line.Disarm state outcome steady calm happens short =
     subst (λ (o : Outcome (State Peers)). StayUp state.peers o.state.peers) (sym happens) (record { active = refl; others = λ server up. up })
-servers-stay-up plain is_plain shelf device never (line.Restart server) state outcome steady calm happens short =
+servers-stay-up size plain is_plain shelf device never (line.Restart server) state outcome steady calm happens short =
     subst (λ (o : Outcome (State Peers)). StayUp state.peers o.state.peers) (sym happens) (restart-stays server (can_join server state.peers) state)
-servers-stay-up plain is_plain shelf device never next state outcome steady calm happens short =
-    others-stay plain is_plain shelf device never state.peers.armed next state outcome refl steady happens short
+servers-stay-up size plain is_plain shelf device never next state outcome steady calm happens short =
+    others-stay size plain is_plain shelf device never state.peers.armed next state outcome refl steady happens short

@@ -27,7 +27,7 @@ use Rattle.group_cluster.specs.Falling.{taken_by, looked_at, commitment, looked,
 use Rattle.group_cluster.specs.Group.{Turn, mirrored, confirmed, first_turn, step_by, mirror_group, ack_group, fails_in, falls, linked, work_done, work_as, work_by, group}
 use Rattle.group_cluster.proofs.Answering.{answer-facts, answer-net}
 use Rattle.group_cluster.proofs.Sounding.{sound-over, sound-hand, looked-accepts, caught-accepts}
-use Rattle.group_cluster.proofs.Seating.{AllSeats, all-on, all-made, all-at, any-on, names-on, names-at, names-caught, few-seats, apart-on, apart-out, looked-seated, weights, weights-most, weights-on, weights-rejoined, Turned, is-turned, AreRoles, silent, stood, IsTurning, mirrored-turns, confirmed-turns, turned-all, none-turned, none-sent, none-took, linked-agrees, linked-standby, linked-weighs, rejoined-agrees, names-felled}
+use Rattle.group_cluster.proofs.Seating.{AllSeats, all-on, all-made, all-at, any-on, names-on, names-at, names-caught, by-names, few-seats, apart-on, apart-out, looked-seated, weights, weights-most, weights-on, weights-rejoined, Turned, is-turned, AreRoles, silent, stood, IsTurning, mirrored-turns, confirmed-turns, turned-all, none-turned, none-sent, none-took, linked-agrees, linked-standby, linked-weighs, rejoined-agrees, names-felled}
 
 -- what is asked of a relation of worlds and lines, that the servers keep it
 pub record Bears (plain : Plain) (R : World → World → List Told → Type 0) : Type 0 where
@@ -86,8 +86,8 @@ IsWaiting _ = ⊥
 
 -- What a step leaves.
 
-pub record Steps (plain : Plain) (R : World → World → List Told → Type 0) (old : State Peers) (outcome : Outcome (State Peers)) : Type 0 where
-  pub good : IsGroup outcome.state
+pub record Steps (size : ℕ) (plain : Plain) (R : World → World → List Told → Type 0) (old : State Peers) (outcome : Outcome (State Peers)) : Type 0 where
+  pub good : IsGroup size outcome.state
   pub done : accepted outcome.state.world.core ≡ accepted old.world.core
   pub agents : outcome.state.world.agents ≡ old.world.agents
   pub stays : Stays old.world outcome.state.world
@@ -96,12 +96,12 @@ pub record Steps (plain : Plain) (R : World → World → List Told → Type 0) 
   pub tells : IsWaiting old.world.core.hand → IsWaiting outcome.state.world.core.hand ⊎ (is_loud outcome.told ≡ true)
   pub goes : IsSound plain old.world → IsSound plain outcome.state.world × R old.world outcome.state.world outcome.told
 
-pub record Nears (plain : Plain) (R : World → World → List Told → Type 0) (old : State Peers) (outcome : Outcome (State Peers)) : Type 0 where
-  pub steps : Steps plain R old outcome
+pub record Nears (size : ℕ) (plain : Plain) (R : World → World → List Told → Type 0) (old : State Peers) (outcome : Outcome (State Peers)) : Type 0 where
+  pub steps : Steps size plain R old outcome
   pub fewer : suc (steps_left outcome.state) ≤ steps_left old
 
-pub record Rests (plain : Plain) (R : World → World → List Told → Type 0) (old : State Peers) (outcome : Outcome (State Peers)) : Type 0 where
-  pub steps : Steps plain R old outcome
+pub record Rests (size : ℕ) (plain : Plain) (R : World → World → List Told → Type 0) (old : State Peers) (outcome : Outcome (State Peers)) : Type 0 where
+  pub steps : Steps size plain R old outcome
   pub empty : outcome.state.world.core.hand ≡ Empty
 
 -- a state by its servers and its hand, so that each case computes
@@ -141,10 +141,10 @@ looked-idle seats past (Waiting entry) world empty = cc
 looked-idle seats past (Applied entry) world empty = cc
 looked-idle seats past (Ready entry) world empty = cc
 
-module _ (plain : Plain) (is_plain : IsPlain plain) (device : Device) (R : World → World → List Told → Type 0) (bears : Bears plain R) where
+module _ (size : ℕ) (plain : Plain) (is_plain : IsPlain plain) (device : Device) (R : World → World → List Told → Type 0) (bears : Bears plain R) where
   abbrev pub Leaves : State Peers → Option (Outcome (State Peers)) → Type 0
   Leaves old None = Unit {0}
-  Leaves old (Some outcome) = Nears plain R old outcome
+  Leaves old (Some outcome) = Nears size plain R old outcome
 
   -- Lines of roles.
 
@@ -185,7 +185,7 @@ module _ (plain : Plain) (is_plain : IsPlain plain) (device : Device) (R : World
       (sound-hand plain past hand (looked_at seats hand) world (sym (looked-accepts past seats hand)) sound, bears.both old new new (commitment seats past hand) roles (looked-goes world past seats hand sound) (shows new))
 
   -- **a change of the servers that leaves fewer steps**
-  pub looked-nears : (state : State Peers) (hand : Hand) (seats : List Seat) (roles : List Told) → AllSeats (Agree hand) seats → IsArmed state.peers.armed seats → IsApart state.peers.acting seats → AreNames (names_of seats) → is_named state.peers.acting (names_of seats) ≡ true → suc (weights seats) ≤ weights state.peers.seats → ((now : World) → R now now roles) → Nears plain R (group_at state.peers.seats hand state) (looked seats hand roles (group_at state.peers.seats hand state))
+  pub looked-nears : (state : State Peers) (hand : Hand) (seats : List Seat) (roles : List Told) → AllSeats (Agree hand) seats → IsArmed state.peers.armed seats → IsApart state.peers.acting seats → AreNames size (names_of seats) → is_named state.peers.acting (names_of seats) ≡ true → suc (weights seats) ≤ weights state.peers.seats → ((now : World) → R now now roles) → Nears size plain R (group_at state.peers.seats hand state) (looked seats hand roles (group_at state.peers.seats hand state))
   looked-nears state hand seats roles agree armed apart names acts fewer shows =
       let past = state.world.core.answered in
       let seated = looked-seated seats hand agree in
@@ -208,7 +208,7 @@ module _ (plain : Plain) (is_plain : IsPlain plain) (device : Device) (R : World
   turned-armed (Some left) old new keep is = (is.0, keep is.1)
 
   -- a message comes
-  pub step-leaves : (state : State Peers) (turn : Turn) → IsTurning state.world.core.hand turn → IsGroup state → (found : Option (List Seat × List Told)) → first_turn turn state.peers.seats ≡ found → Leaves state (step_by found state)
+  pub step-leaves : (state : State Peers) (turn : Turn) → IsTurning state.world.core.hand turn → IsGroup size state → (found : Option (List Seat × List Told)) → first_turn turn state.peers.seats ≡ found → Leaves state (step_by found state)
   step-leaves state turn turns good None is = tt
   step-leaves state turn turns good (Some turned) is =
       let hand = state.world.core.hand in
@@ -216,7 +216,7 @@ module _ (plain : Plain) (is_plain : IsPlain plain) (device : Device) (R : World
       let I : Option (List Seat × List Told) → Type 0 = elim [ None ↦ Unit {0} | Some t ↦ Turned turn seats t.0 t.1 ] in
       let by : Turned turn seats turned.0 turned.1 = subst I is (is-turned turn seats) in
       let all = turned-all hand state.peers.acting turn turns by good.agree in
-      looked-nears state hand turned.0 turned.1 all.agree (turned-armed state.peers.armed seats turned.0 all.standby good.armed) (all.apart good.apart) (subst AreNames (sym all.names) good.names) (ap (is_named state.peers.acting) all.names ∙ good.acts) all.fewer (λ now. roles-go now all.roles)
+      looked-nears state hand turned.0 turned.1 all.agree (turned-armed state.peers.armed seats turned.0 all.standby good.armed) (all.apart good.apart) (subst (AreNames size) (sym all.names) good.names) (ap (is_named state.peers.acting) all.names ∙ good.acts) all.fewer (λ now. roles-go now all.roles)
 
   -- The active server goes down.
 
@@ -268,11 +268,11 @@ module _ (plain : Plain) (is_plain : IsPlain plain) (device : Device) (R : World
   next-all P last (suc count) (server ∷ servers) is all = next-all P last count servers is all.1
 
   -- the next one of a row is one of the servers
-  next-named : (test : Stance → Bool) (last : Server) (count : ℕ) (seats : List Seat) → AreNames (names_of seats) → is_named last (names_of seats) ≡ true → is_named (next_of last count (named test seats)) (names_of seats) ≡ true
+  next-named : (test : Stance → Bool) (last : Server) (count : ℕ) (seats : List Seat) → AreNames size (names_of seats) → is_named last (names_of seats) ≡ true → is_named (next_of last count (named test seats)) (names_of seats) ≡ true
   next-named test last count seats names is =
       let P : Server → Type 0 = λ server. is_named server (names_of seats) ≡ true in
       let N : List Server → Type 0 = λ ones. AllByRecursion (λ (server : Server). is_named server ones ≡ true) ones in
-      next-all P last count (named test seats) is (row-all P test seats (subst N (sym names) (refl, (refl, tt))))
+      next-all P last count (named test seats) is (row-all P test seats (by-names N (refl, (refl, tt)) (refl, (refl, (refl, tt))) size (names_of seats) names))
 
   names-over : (catching : Bool) (test : Stance → Bool) (count : ℕ) (acting : Server) (seats : List Seat) → names_of (out_at acting (on_seats rejoined (felled test count (caught_seats catching seats)))) ≡ names_of seats
   names-over catching test count acting seats =
@@ -281,7 +281,7 @@ module _ (plain : Plain) (is_plain : IsPlain plain) (device : Device) (R : World
       ∙ names-felled test count caught ∙ names-caught catching seats
 
   -- **whoever takes over**
-  pub over-good : (state : State Peers) (hand : Hand) (catching fresh : Bool) → AreNames (names_of state.peers.seats) → is_named state.peers.acting (names_of state.peers.seats) ≡ true → IsGroup (taken_over_by device fresh (caught_seats catching state.peers.seats) (caught_hand catching hand) (caught_lines catching state.world.core.answered hand) (group_at state.peers.seats hand state)).state
+  pub over-good : (state : State Peers) (hand : Hand) (catching fresh : Bool) → AreNames size (names_of state.peers.seats) → is_named state.peers.acting (names_of state.peers.seats) ≡ true → IsGroup size (taken_over_by device fresh (caught_seats catching state.peers.seats) (caught_hand catching hand) (caught_lines catching state.world.core.answered hand) (group_at state.peers.seats hand state)).state
   over-good state hand catching fresh names acts =
       let past = state.world.core.answered in
       let seats = caught_seats catching state.peers.seats in
@@ -294,11 +294,11 @@ module _ (plain : Plain) (is_plain : IsPlain plain) (device : Device) (R : World
         waits = tt;
         armed = tt;
         apart = apart-out acting (on_seats rejoined (felled (takes fresh) count seats));
-        names = subst AreNames (sym same) names;
-        acts = ap (is_named acting) (same ∙ sym caught) ∙ next-named (takes fresh) state.peers.acting count seats (subst AreNames (sym caught) names) (ap (is_named state.peers.acting) caught ∙ acts);
+        names = subst (AreNames size) (sym same) names;
+        acts = ap (is_named acting) (same ∙ sym caught) ∙ next-named (takes fresh) state.peers.acting count seats (subst (AreNames size) (sym caught) names) (ap (is_named state.peers.acting) caught ∙ acts);
       }
 
-  over-nears : (state : State Peers) (entry : Entry) (fresh : Bool) → AreNames (names_of state.peers.seats) → is_named state.peers.acting (names_of state.peers.seats) ≡ true → Nears plain R (group_at state.peers.seats (Ready entry) state) (taken_over_by device fresh state.peers.seats (Ready entry) [] (group_at state.peers.seats (Ready entry) state))
+  over-nears : (state : State Peers) (entry : Entry) (fresh : Bool) → AreNames size (names_of state.peers.seats) → is_named state.peers.acting (names_of state.peers.seats) ≡ true → Nears size plain R (group_at state.peers.seats (Ready entry) state) (taken_over_by device fresh state.peers.seats (Ready entry) [] (group_at state.peers.seats (Ready entry) state))
   over-nears state entry fresh names acts =
       let past = state.world.core.answered in
       let count = count_fallen device fresh (entry ∷ past) state.peers.seats in
@@ -319,7 +319,7 @@ module _ (plain : Plain) (is_plain : IsPlain plain) (device : Device) (R : World
 
   -- The deeds of the entry in hand are done.
 
-  done-nears : (state : State Peers) (entry : Entry) (calls : ℕ) (fails : Bool) → (any_seat is_standby state.peers.seats && (fails || reaches calls state.peers.armed)) ≡ false → IsGroup (group_at state.peers.seats (Ready entry) state) → Nears plain R (group_at state.peers.seats (Ready entry) state) (work_done plain calls entry (group_at state.peers.seats (Ready entry) state))
+  done-nears : (state : State Peers) (entry : Entry) (calls : ℕ) (fails : Bool) → (any_seat is_standby state.peers.seats && (fails || reaches calls state.peers.armed)) ≡ false → IsGroup size (group_at state.peers.seats (Ready entry) state) → Nears size plain R (group_at state.peers.seats (Ready entry) state) (work_done plain calls entry (group_at state.peers.seats (Ready entry) state))
   done-nears state entry calls fails not good =
       let world = state.world in
       let past = world.core.answered in
@@ -332,7 +332,7 @@ module _ (plain : Plain) (is_plain : IsPlain plain) (device : Device) (R : World
             waits = tt;
             armed = worked-armed (any_seat is_standby seats) seats state.peers.armed calls fails refl not good.armed;
             apart = apart-on state.peers.acting linked refl seats good.apart;
-            names = subst AreNames (sym (names-on linked seats)) good.names;
+            names = subst (AreNames size) (sym (names-on linked seats)) good.names;
             acts = ap (is_named state.peers.acting) (names-on linked seats) ∙ good.acts;
           };
           done = refl;
@@ -345,14 +345,14 @@ module _ (plain : Plain) (is_plain : IsPlain plain) (device : Device) (R : World
         fewer = omega arith;
       }
 
-  work-as : (state : State Peers) (entry : Entry) (fell : Bool) → falls device state.world.core.answered entry state.peers ≡ fell → IsGroup (group_at state.peers.seats (Ready entry) state) → Nears plain R (group_at state.peers.seats (Ready entry) state) (work_as plain device entry fell (group_at state.peers.seats (Ready entry) state))
+  work-as : (state : State Peers) (entry : Entry) (fell : Bool) → falls device state.world.core.answered entry state.peers ≡ fell → IsGroup size (group_at state.peers.seats (Ready entry) state) → Nears size plain R (group_at state.peers.seats (Ready entry) state) (work_as plain device entry fell (group_at state.peers.seats (Ready entry) state))
   work-as state entry true is good = over-nears state entry (any_seat is_fresh state.peers.seats) good.names good.acts
   work-as state entry false is good =
       let past = state.world.core.answered in
       let calls = device.calls past entry in
       done-nears state entry calls (fails_in calls (device.fails (suc (length past)))) is good
 
-  work-leaves : (state : State Peers) (hand : Hand) → IsGroup (group_at state.peers.seats hand state) → Leaves (group_at state.peers.seats hand state) (work_by plain device hand (group_at state.peers.seats hand state))
+  work-leaves : (state : State Peers) (hand : Hand) → IsGroup size (group_at state.peers.seats hand state) → Leaves (group_at state.peers.seats hand state) (work_by plain device hand (group_at state.peers.seats hand state))
   work-leaves state (Ready entry) good = work-as state entry (falls device state.world.core.answered entry state.peers) refl good
   work-leaves state Empty good = tt
   work-leaves state (Waiting entry) good = tt
@@ -361,7 +361,7 @@ module _ (plain : Plain) (is_plain : IsPlain plain) (device : Device) (R : World
   -- One step, where there is one; and where there is none, no entry is in hand.
 
   abbrev pub StepLeaves : (State Peers → Option (Outcome (State Peers))) → Type 0
-  StepLeaves step = (state : State Peers) → IsGroup state → Leaves state (step state)
+  StepLeaves step = (state : State Peers) → IsGroup size state → Leaves state (step state)
 
   pub mirror-steps : StepLeaves mirror_group
   mirror-steps state good =
@@ -396,7 +396,7 @@ module _ (plain : Plain) (is_plain : IsPlain plain) (device : Device) (R : World
   stuck-by state (Applied entry) waits sent took none = cc
   stuck-by state (Ready entry) waits sent took none = cc
 
-  stuck : (state : State Peers) → IsGroup state → advance (group plain device) state ≡ None → state.world.core.hand ≡ Empty
+  stuck : (state : State Peers) → IsGroup size state → advance (group plain device) state ≡ None → state.world.core.hand ≡ Empty
   stuck state good is =
       let past = state.world.core.answered in
       let seats = state.peers.seats in
@@ -408,7 +408,7 @@ module _ (plain : Plain) (is_plain : IsPlain plain) (device : Device) (R : World
 
   -- A drain.
 
-  steps-none : (state : State Peers) → IsGroup state → Steps plain R state (quietly state)
+  steps-none : (state : State Peers) → IsGroup size state → Steps size plain R state (quietly state)
   steps-none state good = record {
     good = good;
     done = refl;
@@ -419,7 +419,7 @@ module _ (plain : Plain) (is_plain : IsPlain plain) (device : Device) (R : World
     goes = λ sound. (sound, bears.same state.world);
   }
 
-  steps-both : (old : State Peers) (first second : Outcome (State Peers)) → Steps plain R old first → Steps plain R first.state second → Steps plain R old (record { state = second.state; told = second.told ++ first.told })
+  steps-both : (old : State Peers) (first second : Outcome (State Peers)) → Steps size plain R old first → Steps size plain R first.state second → Steps size plain R old (record { state = second.state; told = second.told ++ first.told })
   steps-both old first second one two = record {
     good = two.good;
     done = two.done ∙ one.done;
@@ -436,7 +436,7 @@ module _ (plain : Plain) (is_plain : IsPlain plain) (device : Device) (R : World
         (after.0, bears.both old.world first.state.world second.state.world first.told second.told before.1 after.1);
   }
 
-  rests-by : (count : ℕ) (state : State Peers) (next : Option (Outcome (State Peers))) → advance (group plain device) state ≡ next → IsGroup state → steps_left state ≤ suc count → Leaves state next → ((now : State Peers) → IsGroup now → steps_left now ≤ count → Rests plain R now (advances (group plain device) count now)) → Rests plain R state (after_step (advances (group plain device) count) next state)
+  rests-by : (count : ℕ) (state : State Peers) (next : Option (Outcome (State Peers))) → advance (group plain device) state ≡ next → IsGroup size state → steps_left state ≤ suc count → Leaves state next → ((now : State Peers) → IsGroup size now → steps_left now ≤ count → Rests size plain R now (advances (group plain device) count now)) → Rests size plain R state (after_step (advances (group plain device) count) next state)
   rests-by count state None is good most leaves deeper = record { steps = steps-none state good; empty = stuck state good is }
   rests-by count state (Some outcome) is good most leaves deeper =
       let less = leaves.fewer in
@@ -449,7 +449,7 @@ module _ (plain : Plain) (is_plain : IsPlain plain) (device : Device) (R : World
   none-left (Applied entry) more none = absurd (omega arith)
   none-left (Ready entry) more none = absurd (omega arith)
 
-  rests : (count : ℕ) (state : State Peers) → IsGroup state → steps_left state ≤ count → Rests plain R state (advances (group plain device) count state)
+  rests : (count : ℕ) (state : State Peers) → IsGroup size state → steps_left state ≤ count → Rests size plain R state (advances (group plain device) count state)
   rests zero state good most = record { steps = steps-none state good; empty = none-left state.world.core.hand (weights state.peers.seats) most }
   rests (suc count) state good most =
       rests-by count state (advance (group plain device) state) refl good most (advance-leaves state good) (λ now fine less. rests count now fine less)
@@ -460,13 +460,13 @@ module _ (plain : Plain) (is_plain : IsPlain plain) (device : Device) (R : World
   none-goes state None leaves most = refl
   none-goes state (Some outcome) leaves most = let less = leaves.fewer in absurd (omega arith)
 
-  ends-by : (count : ℕ) (state : State Peers) (next : Option (Outcome (State Peers))) → advance (group plain device) state ≡ next → steps_left state ≤ suc count → Leaves state next → ((now : State Peers) → IsGroup now → steps_left now ≤ count → advance (group plain device) (advances (group plain device) count now).state ≡ None) → advance (group plain device) (after_step (advances (group plain device) count) next state).state ≡ None
+  ends-by : (count : ℕ) (state : State Peers) (next : Option (Outcome (State Peers))) → advance (group plain device) state ≡ next → steps_left state ≤ suc count → Leaves state next → ((now : State Peers) → IsGroup size now → steps_left now ≤ count → advance (group plain device) (advances (group plain device) count now).state ≡ None) → advance (group plain device) (after_step (advances (group plain device) count) next state).state ≡ None
   ends-by count state None is most leaves deeper = is
   ends-by count state (Some outcome) is most leaves deeper =
       let less = leaves.fewer in
       deeper outcome.state leaves.steps.good (omega arith)
 
-  ends : (count : ℕ) (state : State Peers) → IsGroup state → steps_left state ≤ count → advance (group plain device) (advances (group plain device) count state).state ≡ None
+  ends : (count : ℕ) (state : State Peers) → IsGroup size state → steps_left state ≤ count → advance (group plain device) (advances (group plain device) count state).state ≡ None
   ends zero state good most = none-goes state (advance (group plain device) state) (advance-leaves state good) most
   ends (suc count) state good most =
       ends-by count state (advance (group plain device) state) refl most (advance-leaves state good) (λ now fine less. ends count now fine less)
@@ -478,17 +478,17 @@ module _ (plain : Plain) (is_plain : IsPlain plain) (device : Device) (R : World
   one-most (Ready entry) = omega arith
 
   -- **a drain comes to rest**
-  pub group-rests : (state : State Peers) → IsGroup state → Rests plain R state (drain (group plain device) state)
+  pub group-rests : (state : State Peers) → IsGroup size state → Rests size plain R state (drain (group plain device) state)
   group-rests state good =
-      let few = few-seats state.peers.seats good.names in
+      let few = few-seats size state.peers.seats good.names in
       let most = weights-most state.peers.seats in
       let one = one-most state.world.core.hand in
       rests 13 state good (omega arith)
 
   -- **and has no step left**
-  pub group-ends : (state : State Peers) → IsGroup state → advance (group plain device) (drain (group plain device) state).state ≡ None
+  pub group-ends : (state : State Peers) → IsGroup size state → advance (group plain device) (drain (group plain device) state).state ≡ None
   group-ends state good =
-      let few = few-seats state.peers.seats good.names in
+      let few = few-seats size state.peers.seats good.names in
       let most = weights-most state.peers.seats in
       let one = one-most state.world.core.hand in
       ends 13 state good (omega arith)

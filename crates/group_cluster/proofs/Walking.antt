@@ -1,5 +1,5 @@
 -- A relation of worlds and lines that is kept by each kind of line, and by what servers make of history and hand, is kept by every line.
-use Rattle.std.proofs.Common.{◌&&◌, List, [], ◌∷◌, refl, sym, subst}
+use Rattle.std.proofs.Common.{ℕ, ◌&&◌, List, [], ◌∷◌, refl, sym, subst}
 use Rattle.script_lines.specs.declared.line.Line.{Line}
 use Rattle.script_lines.specs.declared.line.Line.TheVariants as line
 use Rattle.cluster_facts.specs.Service.{Plain, IsPlain}
@@ -38,24 +38,24 @@ module _ (plain : Plain) (R : World → World → List Told → Type 0) (told : 
   }
 
 -- **each line keeps the facts of the servers, and the relation of its kind**
-module _ (plain : Plain) (is_plain : IsPlain plain) (shelf : Shelf) (device : Device) (R : ByKind) (told : IsTold plain (R Others)) (cored : IsCored (R Others)) (by_kind : IsByKind plain R) where
+module _ (size : ℕ) (plain : Plain) (is_plain : IsPlain plain) (shelf : Shelf) (device : Device) (R : ByKind) (told : IsTold plain (R Others)) (cored : IsCored (R Others)) (by_kind : IsByKind plain R) where
   bears : Bears plain (R Others)
   bears = told-bears plain (R Others) told by_kind.shows cored
 
-  carried : IsCarried plain (group plain device) IsGroup (R Others)
-  carried = group-carries plain is_plain device (R Others) bears told
+  carried : IsCarried plain (group plain device) (IsGroup size) (R Others)
+  carried = group-carries size plain is_plain device (R Others) bears told
 
   abbrev Walks : Line → State Peers → Outcome (State Peers) → Type 0
-  Walks next state outcome = IsSteady plain IsGroup outcome.state × R (kind_of next) state.world outcome.state.world outcome.told
+  Walks next state outcome = IsSteady plain (IsGroup size) outcome.state × R (kind_of next) state.world outcome.state.world outcome.told
 
-  pub group-walks : (next : Line) (state : State Peers) (outcome : Outcome (State Peers)) → IsSteady plain IsGroup state → GroupHappens plain shelf device next state outcome → Walks next state outcome
+  pub group-walks : (next : Line) (state : State Peers) (outcome : Outcome (State Peers)) → IsSteady plain (IsGroup size) state → GroupHappens plain shelf device next state outcome → Walks next state outcome
   group-walks (line.Crash server) state outcome steady happens =
-      subst (Walks (line.Crash server) state) (sym happens) (crash-keeps plain is_plain device (R Others) bears server (same_server server state.peers.acting) state refl steady)
+      subst (Walks (line.Crash server) state) (sym happens) (crash-keeps size plain is_plain device (R Others) bears server (same_server server state.peers.acting) state refl steady)
   group-walks (line.Arm server count) state outcome steady happens =
-      subst (Walks (line.Arm server count) state) (sym happens.1) (arm-keeps plain is_plain device (R Others) bears server count (same_server server state.peers.acting && any_seat is_standby state.peers.seats) state refl happens.0 steady)
+      subst (Walks (line.Arm server count) state) (sym happens.1) (arm-keeps size plain is_plain device (R Others) bears server count (same_server server state.peers.acting && any_seat is_standby state.peers.seats) state refl happens.0 steady)
   group-walks line.Disarm state outcome steady happens =
-      subst (Walks line.Disarm state) (sym happens) (disarm-keeps plain is_plain device (R Others) bears state steady)
+      subst (Walks line.Disarm state) (sym happens) (disarm-keeps size plain is_plain device (R Others) bears state steady)
   group-walks (line.Restart server) state outcome steady happens =
-      subst (Walks (line.Restart server) state) (sym happens) (restart-keeps plain is_plain device (R Others) bears server (can_join server state.peers) state refl steady)
+      subst (Walks (line.Restart server) state) (sym happens) (restart-keeps size plain is_plain device (R Others) bears server (can_join server state.peers) state refl steady)
   group-walks next state outcome steady happens =
-      line-walks plain is_plain shelf (group plain device) IsGroup (group-serves plain device is_plain) R carried (group-stepped plain is_plain device (R Others) bears) by_kind next state outcome steady happens
+      line-walks plain is_plain shelf (group plain device) (IsGroup size) (group-serves size plain device is_plain) R carried (group-stepped size plain is_plain device (R Others) bears) by_kind next state outcome steady happens

@@ -93,8 +93,8 @@ GroupEnds plain device _ state end = ⊥
 -- all promises hold there too
 abbrev pub EndKeepsPromises : Type 0
 EndKeepsPromises =
-    (plain : Plain) → IsPlain plain → (shelf : Shelf) (calls : List Entry → Entry → ℕ) (device : Device) (others : List Server)
-    → CanStart others → (now : ℤ) (places first : ℕ) (lines : List Line) (state : State Peers) (told : List Told) (mark : ℕ)
+    (size : ℕ) (plain : Plain) → IsPlain plain → (shelf : Shelf) (calls : List Entry → Entry → ℕ) (device : Device) (others : List Server)
+    → CanStart size others → (now : ℤ) (places first : ℕ) (lines : List Line) (state : State Peers) (told : List Told) (mark : ℕ)
     (next : Line) (end : Outcome (State Peers))
     → RunBy (GroupStepBy plain shelf calls) (group_start others now places) first lines state told mark
     → GroupEnds plain device next state end
@@ -103,6 +103,6 @@ EndKeepsPromises =
 -- and no reply is posted to the last call, whose work failed, but behind a crash
 abbrev pub EndLacksReply : Type 0
 EndLacksReply =
-    (plain : Plain) → IsPlain plain → (device : Device) (next : Line) (state : State Peers) (end : Outcome (State Peers))
-    → IsSteady plain IsGroup state → is_crash next ≡ false → GroupEnds plain device next state end
+    (size : ℕ) (plain : Plain) → IsPlain plain → (device : Device) (next : Line) (state : State Peers) (end : Outcome (State Peers))
+    → IsSteady plain (IsGroup size) state → is_crash next ≡ false → GroupEnds plain device next state end
     → LacksLast end.state.world.core.answered (messages_in end.state.world.net)

@@ -1,8 +1,8 @@
 -- Words of public clauses: an active server and others beside it, as servers of a cluster.
-use Rattle.std.specs.Prelude.{ℕ, ℤ, suc, Bool, true, false, ◌&&◌, ◌||◌, ◌≡◌, nat_le, Option, Some, None, List, [], ◌∷◌, length}
+use Rattle.std.specs.Prelude.{ℕ, ℤ, suc, Bool, true, false, ◌&&◌, ◌||◌, nat_le, if◌then◌else◌, Option, Some, None, List, [], ◌∷◌, length}
 use Rattle.disk_model.specs.Counts.{reaches, lowered}
 use Rattle.script_lines.specs.declared.line.Server.{Server}
-use Rattle.script_lines.specs.declared.line.Server.TheVariants.{A, B}
+use Rattle.script_lines.specs.declared.line.Server.TheVariants.{A}
 use Rattle.cluster_facts.specs.Types.{Entry}
 use Rattle.cluster_facts.specs.Service.{Plain}
 use Rattle.cluster_facts.specs.History.{Hand, Empty, Waiting, Ready}
@@ -13,7 +13,8 @@ use Rattle.cluster_events.specs.Outcomes.{Outcome}
 use Rattle.cluster_events.specs.Servers.{State, Servers}
 use Rattle.cluster_events.specs.Devices.{Device}
 use Rattle.group_cluster.specs.Answering.{net_answering, lines_answering}
-use Rattle.group_cluster.specs.Seats.{Clear, Sent, Took, Stance, Out, Owed, Linking, Standby, Seat, Peers, is_standby, any_seat, on_seats, standing_group}
+use Rattle.group_cluster.specs.Seats.{Clear, Sent, Took, Stance, Out, Owed, Linking, Standby, Seat, Peers, AreNames}
+use Rattle.group_cluster.specs.Seats.{is_standby, any_seat, on_seats, same_server, standing_group}
 use Rattle.group_cluster.specs.Falling.{looked, taken_over}
 
 -- an entry is accepted: it goes to each server that is linked
@@ -53,6 +54,10 @@ abbrev pub first_turn : Turn → List Seat → Option (List Seat × List Told)
 first_turn turn [] = None
 first_turn turn (seat ∷ seats) = turned_or seat (turn seat.server seat.stance) seats (first_turn turn seats)
 
+-- one server alone
+abbrev pub only : Server → Turn → Turn
+only one turn server stance = if same_server one server then turn server stance else None
+
 abbrev pub step_by : Option (List Seat × List Told) → State Peers → Option (Outcome (State Peers))
 step_by None state = None
 step_by (Some turned) state = Some (looked turned.0 state.world.core.hand turned.1 state)
@@ -62,6 +67,13 @@ mirror_group state = step_by (first_turn (mirrored state.world.core.answered) st
 
 abbrev pub ack_group : State Peers → Option (Outcome (State Peers))
 ack_group state = step_by (first_turn confirmed state.peers.seats) state
+
+-- the first message on the way to one server, or from it
+abbrev pub mirror_at : Server → State Peers → Option (Outcome (State Peers))
+mirror_at server state = step_by (first_turn (only server (mirrored state.world.core.answered)) state.peers.seats) state
+
+abbrev pub ack_at : Server → State Peers → Option (Outcome (State Peers))
+ack_at server state = step_by (first_turn (only server confirmed) state.peers.seats) state
 
 -- whether the disk fails in one of so many changing calls, where so many servers fall
 abbrev pub fails_in : ℕ → ℕ → Bool
@@ -128,6 +140,6 @@ group_start others now places = record {
   peers = record { acting = A; seats = record { server = A; stance = Out } ∷ others_at others; armed = None };
 }
 
--- there is one other
-abbrev pub CanStart : List Server → Type 0
-CanStart others = others ≡ B ∷ []
+-- these are the others of so many servers
+abbrev pub CanStart : ℕ → List Server → Type 0
+CanStart size others = AreNames size (A ∷ others)

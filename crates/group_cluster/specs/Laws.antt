@@ -21,7 +21,7 @@ use Rattle.group_cluster.specs.Running.{GroupStepBy}
 -- at the end of each line of a run all promises hold. The lines so far are themselves a run, so they hold at the end of every line
 abbrev pub GroupKeepsPromises : Type 0
 GroupKeepsPromises =
-    (plain : Plain) → IsPlain plain → (shelf : Shelf) (calls : List Entry → Entry → ℕ) (others : List Server) → CanStart others
+    (size : ℕ) (plain : Plain) → IsPlain plain → (shelf : Shelf) (calls : List Entry → Entry → ℕ) (others : List Server) → CanStart size others
     → (now : ℤ) (places first : ℕ) (lines : List Line) (state : State Peers) (told : List Told) (mark : ℕ)
     → RunBy (GroupStepBy plain shelf calls) (group_start others now places) first lines state told mark → AtEnd plain state.world told
 
@@ -33,20 +33,20 @@ pub record GroupSettlesOnce (plain : Plain) (device : Device) (state : State Pee
 
 abbrev pub GroupSettleEnds : Type 0
 GroupSettleEnds =
-    (plain : Plain) → IsPlain plain → (shelf : Shelf) (calls : List Entry → Entry → ℕ) (device : Device) (others : List Server)
-    → CanStart others → (now : ℤ) (places first : ℕ) (lines : List Line) (state : State Peers) (told : List Told) (mark : ℕ)
+    (size : ℕ) (plain : Plain) → IsPlain plain → (shelf : Shelf) (calls : List Entry → Entry → ℕ) (device : Device) (others : List Server)
+    → CanStart size others → (now : ℤ) (places first : ℕ) (lines : List Line) (state : State Peers) (told : List Told) (mark : ℕ)
     → RunBy (GroupStepBy plain shelf calls) (group_start others now places) first lines state told mark
     → GroupSettlesOnce plain device state
 
 abbrev pub GroupSettleSettles : Type 0
 GroupSettleSettles =
-    (plain : Plain) → IsPlain plain → (shelf : Shelf) (calls : List Entry → Entry → ℕ) (device : Device) (others : List Server)
-    → CanStart others → (now : ℤ) (places first : ℕ) (lines : List Line) (state new : State Peers) (told printed : List Told) (mark : ℕ)
+    (size : ℕ) (plain : Plain) → IsPlain plain → (shelf : Shelf) (calls : List Entry → Entry → ℕ) (device : Device) (others : List Server)
+    → CanStart size others → (now : ℤ) (places first : ℕ) (lines : List Line) (state new : State Peers) (told printed : List Told) (mark : ℕ)
     → RunBy (GroupStepBy plain shelf calls) (group_start others now places) first lines state told mark
     → Settles plain (group plain device) state new printed → IsSettled plain new.world
 
 -- behind a drain no step of the servers is left: so many steps as they say are enough
 abbrev pub GroupDrainEnds : Type 0
 GroupDrainEnds =
-    (plain : Plain) → IsPlain plain → (device : Device) (state : State Peers) → IsSteady plain IsGroup state
+    (size : ℕ) (plain : Plain) → IsPlain plain → (device : Device) (state : State Peers) → IsSteady plain (IsGroup size) state
     → advance (group plain device) (drain (group plain device) state).state ≡ None

@@ -1,5 +1,5 @@
 -- Words of public clauses: servers of which one is active, and what is on the way between it and the others.
-use Rattle.std.specs.Prelude.{◌≡◌, ℕ, suc, ◌+◌, ◌≤◌, Bool, true, false, ◌||◌, not, if◌then◌else◌, Option, Some, None, List, [], ◌∷◌, ◌++◌, length}
+use Rattle.std.specs.Prelude.{◌≡◌, ℕ, zero, suc, ◌+◌, ◌≤◌, Bool, true, false, ◌||◌, not, nat_le, if◌then◌else◌, Option, Some, None, List, [], ◌∷◌, ◌++◌, length}
 use Rattle.std.specs.List.{AllByRecursion, list_any}
 use Rattle.script_lines.specs.declared.line.Server.{Server}
 use Rattle.script_lines.specs.declared.line.Server.TheVariants.{A, B, C}
@@ -7,7 +7,8 @@ use Rattle.cluster_facts.specs.Types.{Entry}
 use Rattle.cluster_facts.specs.History.{Hand, Empty, Waiting, Applied, Ready}
 use Rattle.cluster_events.specs.declared.lines.ServerRole.{ServerRole}
 use Rattle.cluster_events.specs.declared.lines.ServerRole.TheVariants as role
-use Rattle.cluster_events.specs.declared.lines.Roles.TheVariants.{Two}
+use Rattle.cluster_events.specs.declared.lines.Roles.{Roles}
+use Rattle.cluster_events.specs.declared.lines.Roles.TheVariants.{Two, Three}
 use Rattle.cluster_events.specs.declared.lines.Standing.{Standing}
 use Rattle.cluster_events.specs.Servers.{State}
 
@@ -160,17 +161,19 @@ names_of (seat ∷ seats) = seat.server ∷ names_of seats
 abbrev pub is_named : Server → List Server → Bool
 is_named server names = list_any (same_server server) names
 
--- two servers, each once
-abbrev pub AreNames : List Server → Type 0
-AreNames names = names ≡ A ∷ B ∷ []
+-- two servers or three, each once, in order
+abbrev pub AreNames : ℕ → List Server → Type 0
+AreNames (suc (suc zero)) names = names ≡ A ∷ B ∷ []
+AreNames (suc (suc (suc zero))) names = names ≡ A ∷ B ∷ C ∷ []
+AreNames size names = ⊥
 
--- what holds of servers at all times
-pub record IsGroup (state : State Peers) : Type 0 where
+-- what holds of so many servers at all times
+pub record IsGroup (size : ℕ) (state : State Peers) : Type 0 where
   pub agree : AllByRecursion (λ (seat : Seat). Agree state.world.core.hand seat.stance) state.peers.seats
   pub waits : WaitsFor state.world.core.hand state.peers.seats
   pub armed : IsArmed state.peers.armed state.peers.seats
   pub apart : IsApart state.peers.acting state.peers.seats
-  pub names : AreNames (names_of state.peers.seats)
+  pub names : AreNames size (names_of state.peers.seats)
   -- the active server is one of them
   pub acts : is_named state.peers.acting (names_of state.peers.seats) ≡ true
 
@@ -214,12 +217,18 @@ abbrev pub backs : List Entry → List Seat → ℕ
 backs past [] = 0
 backs past (seat ∷ seats) = length (back_of past seat.stance) + backs past seats
 
+-- the roles of two servers, or of three
+abbrev pub roles_of : Peers → Roles
+roles_of peers =
+    if nat_le 3 (length peers.seats) then Three (role_of A peers) (role_of B peers) (role_of C peers)
+    else Two (role_of A peers) (role_of B peers)
+
 abbrev pub standing_group : State Peers → Standing
 standing_group state =
     let past = state.world.core.answered in
     let hand = state.world.core.hand in
     record {
-      roles = Two (role_of A state.peers) (role_of B state.peers);
+      roles = roles_of state.peers;
       net = length state.world.net;
       link = links past hand state.peers.seats;
       back = backs past state.peers.seats;

@@ -31,8 +31,8 @@ IsShort next before after = IsSome before → IsSome after
 -- where no work fails and the armed count does not come to its end, only `crash` takes a server down
 abbrev pub ServersStayUp : Type 0
 ServersStayUp =
-    (plain : Plain) → IsPlain plain → (shelf : Shelf) (device : Device) → ((number : ℕ) → device.fails number ≡ 0)
-    → (next : Line) (state : State Peers) (outcome : Outcome (State Peers)) → IsSteady plain IsGroup state → is_crash next ≡ false
+    (size : ℕ) (plain : Plain) → IsPlain plain → (shelf : Shelf) (device : Device) → ((number : ℕ) → device.fails number ≡ 0)
+    → (next : Line) (state : State Peers) (outcome : Outcome (State Peers)) → IsSteady plain (IsGroup size) state → is_crash next ≡ false
     → GroupHappens plain shelf device next state outcome → IsShort next state.peers.armed outcome.state.peers.armed
     → StayUp state.peers outcome.state.peers
 
@@ -43,7 +43,7 @@ pub record CrashesOne (server : Server) (old new : Peers) : Type 0 where
 
 abbrev pub CrashTakesOne : Type 0
 CrashTakesOne =
-    (device : Device) → ((number : ℕ) → device.fails number ≡ 0) → (server : Server) (state : State Peers) → IsGroup state
+    (size : ℕ) (device : Device) → ((number : ℕ) → device.fails number ≡ 0) → (server : Server) (state : State Peers) → IsGroup size state
     → ((crash device server state).state ≡ state) ⊎ CrashesOne server state.peers (crash device server state).state.peers
 
 -- a server of this name is standby

@@ -46,13 +46,13 @@ fresh disk storage past (Ready entry) files left (Standby on_way Clear false) ag
 fresh disk storage past (Ready entry) files left (Standby on_way Took false) agree = elim agree [ ]
 
 pub standbys-follow : StandbysFollow
-standbys-follow state good =
+standbys-follow size state good =
     let past = state.world.core.answered in
     let hand = state.world.core.hand in
     all-by (Agree hand) (IsFollowed past hand) (followed past hand) state.peers.seats good.agree
 
 pub fresh-follow : FreshFollow
-fresh-follow setup state files good left =
+fresh-follow size setup state files good left =
     let past = state.world.core.answered in
     let hand = state.world.core.hand in
     let storage = storage_of setup in

@@ -126,7 +126,7 @@ caught-sound : (plain : Plain) (world : World) (past : List Entry) (catching : B
 caught-sound plain world past catching hand sound = sound-hand plain past hand (caught_hand catching hand) world (sym (caught-accepts past catching hand)) sound
 
 pub lies-between : LeftBetween
-lies-between setup can state files falls =
+lies-between size setup can state files falls =
     let past = state.world.core.answered in
     let hand = state.world.core.hand in
     let catching = catches state.peers.seats hand in
@@ -136,12 +136,12 @@ lies-between setup can state files falls =
     (caught-sound plain state.world past catching hand falls.steady.sound) (caught-range past catching hand falls.range) (left-caught service_disk storage past catching hand files falls.left)
 
 pub stands-fresh : FreshStands
-stands-fresh setup can state files falls fresh =
+stands-fresh size setup can state files falls fresh =
     let hand = state.world.core.hand in
     fresh-stands (plain_of setup) (service_plain setup) service_disk (storage_of setup) (service_storage setup can) state.world state.world.core.answered (catches state.peers.seats hand) hand state.peers.seats files falls.steady.good.agree falls.left refl fresh
 
 pub makes-files : TakeoverMakesFiles
-makes-files setup can state files between falls fresh lies same =
+makes-files size setup can state files between falls fresh lies same =
     let past = state.world.core.answered in
     let hand = state.world.core.hand in
     let catching = catches state.peers.seats hand in

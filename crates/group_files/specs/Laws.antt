@@ -24,23 +24,23 @@ use Rattle.group_files.specs.Takeovers.{last_deeds, FilesLeft, CanFall, left_his
 -- wherever the files were left they lie between those of what goes on without its last entry and those with it
 abbrev pub LeftBetween : Type 0
 LeftBetween =
-    (setup : Setup) → CanBegin setup → (state : State Peers) (files : service_disk.Files)
-    → CanFall (plain_of setup) service_disk (storage_of setup) state files
+    (size : ℕ) (setup : Setup) → CanBegin setup → (state : State Peers) (files : service_disk.Files)
+    → CanFall size (plain_of setup) service_disk (storage_of setup) state files
     → Between service_disk (storage_of setup) (left_history state) files
 
 -- where some standby keeps no deeds, they are those of what goes on
 abbrev pub FreshStands : Type 0
 FreshStands =
-    (setup : Setup) → CanBegin setup → (state : State Peers) (files : service_disk.Files)
-    → CanFall (plain_of setup) service_disk (storage_of setup) state files → has_fresh state ≡ true
+    (size : ℕ) (setup : Setup) → CanBegin setup → (state : State Peers) (files : service_disk.Files)
+    → CanFall size (plain_of setup) service_disk (storage_of setup) state files → has_fresh state ≡ true
     → files ≡ (storage_of setup).files (left_history state)
 
 -- the last entry's deeds make them so from any files between (without an entry there are no such deeds, and the files are as they were
 -- left), and a takeover that breaks off leaves files between
 abbrev pub TakeoverMakesFiles : Type 0
 TakeoverMakesFiles =
-    (setup : Setup) → CanBegin setup → (state : State Peers) (files between : service_disk.Files)
-    → CanFall (plain_of setup) service_disk (storage_of setup) state files → has_fresh state ≡ false
+    (size : ℕ) (setup : Setup) → CanBegin setup → (state : State Peers) (files between : service_disk.Files)
+    → CanFall size (plain_of setup) service_disk (storage_of setup) state files → has_fresh state ≡ false
     → Between service_disk (storage_of setup) (left_history state) between → (left_history state ≡ [] → between ≡ files)
     → all_applied service_disk (last_deeds service_disk (storage_of setup) (left_history state)) between
     ≡ (storage_of setup).files (left_history state)
@@ -61,13 +61,13 @@ WorkLeavesFiles =
 -- each standby has applied the history, or the history and the waiting entry
 abbrev pub StandbysFollow : Type 0
 StandbysFollow =
-    (state : State Peers) → IsGroup state
+    (size : ℕ) (state : State Peers) → IsGroup size state
     → AllByRecursion (λ (seat : Seat). IsFollowed state.world.core.answered state.world.core.hand seat.stance) state.peers.seats
 
 -- one that keeps no deeds has applied the answered history, and the files are those of that history
 abbrev pub FreshFollow : Type 0
 FreshFollow =
-    (setup : Setup) (state : State Peers) (files : service_disk.Files) → IsGroup state
+    (size : ℕ) (setup : Setup) (state : State Peers) (files : service_disk.Files) → IsGroup size state
     → FilesLeft service_disk (storage_of setup) state.world.core.answered state.world.core.hand files
     → AllByRecursion
     (λ (seat : Seat). IsFresh service_disk (storage_of setup) state.world.core.answered state.world.core.hand files seat.stance)
@@ -76,7 +76,8 @@ FreshFollow =
 -- the files that a run leaves are those of the history without the entry in hand
 abbrev pub GroupFilesStand : Type 0
 GroupFilesStand =
-    (setup : Setup) → CanBegin setup → (shelf : Shelf) (calls : List Entry → Entry → ℕ) (others : List Server) → CanStart others
+    (size : ℕ) (setup : Setup) → CanBegin setup → (shelf : Shelf) (calls : List Entry → Entry → ℕ) (others : List Server)
+    → CanStart size others
     → (now : ℤ) (places first : ℕ) (lines : List Line) (state : State Peers) (told : List Told) (mark : service_disk.Files × ℕ)
     → RunOnBy (GroupStepBy (plain_of setup) shelf calls) service_disk (storage_of setup) (group_start others now places) first
     lines state told mark
@@ -85,7 +86,8 @@ GroupFilesStand =
 -- and what was answered as stored stays at its place, until the service gives the place away
 abbrev pub GroupRecordsStay : Type 0
 GroupRecordsStay =
-    (setup : Setup) → CanBegin setup → (shelf : Shelf) (calls : List Entry → Entry → ℕ) (others : List Server) → CanStart others
+    (size : ℕ) (setup : Setup) → CanBegin setup → (shelf : Shelf) (calls : List Entry → Entry → ℕ) (others : List Server)
+    → CanStart size others
     → (now : ℤ) (places first : ℕ) (lines : List Line) (state : State Peers) (told : List Told) (mark : service_disk.Files × ℕ)
     → RunOnBy (GroupStepBy (plain_of setup) shelf calls) service_disk (storage_of setup) (group_start others now places) first
     lines state told mark

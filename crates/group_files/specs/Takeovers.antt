@@ -1,5 +1,5 @@
 -- Words of public clauses: the files of a cluster whose active server goes down: a standby performs the deeds that it keeps.
-use Rattle.std.specs.Prelude.{◌≡◌, Bool, true, false, ◌⊎◌, List, [], ◌∷◌}
+use Rattle.std.specs.Prelude.{◌≡◌, ℕ, Bool, true, false, ◌⊎◌, List, [], ◌∷◌}
 use Rattle.cluster_facts.specs.Types.{Entry}
 use Rattle.cluster_facts.specs.Service.{Plain}
 use Rattle.cluster_facts.specs.Storage.{Disk, Storage, Between}
@@ -21,8 +21,8 @@ FilesLeft disk storage past (Ready entry) files = Between disk storage (entry �
 FilesLeft disk storage past _ files = files ≡ storage.files past
 
 -- the active server of such a state may go down and a standby take over
-pub record CanFall (plain : Plain) (disk : Disk) (storage : Storage disk) (state : State Peers) (files : disk.Files) : Type 0 where
-  pub steady : IsSteady plain IsGroup state
+pub record CanFall (size : ℕ) (plain : Plain) (disk : Disk) (storage : Storage disk) (state : State Peers) (files : disk.Files) : Type 0 where
+  pub steady : IsSteady plain (IsGroup size) state
   pub standby : any_seat is_standby state.peers.seats ≡ true
   pub range : AreInRange (accepted_by state.world.core.answered state.world.core.hand)
   pub left : FilesLeft disk storage state.world.core.answered state.world.core.hand files
