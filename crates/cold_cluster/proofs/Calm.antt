@@ -86,10 +86,10 @@ module _ (plain : Plain) (is_plain : IsPlain plain) (device : Device) where
   serving = serving-also plain (alone plain device) IsCold IsCalm lasts-calm (cold-serves standing_cold plain is_plain device)
 
   carried : IsCarried plain (alone plain device) Good (Says plain)
-  carried = carried-also plain (alone plain device) IsCold IsCalm lasts-calm (Says plain) (cold-carries standing_cold plain is_plain device (Says plain) (group-says plain (calm device) is_plain))
+  carried = carried-also plain (alone plain device) IsCold IsCalm lasts-calm (Says plain) (cold-carries standing_cold plain is_plain device (Says plain) (group-says 2 plain (calm device) is_plain))
 
   stepped : AreStepped plain (alone plain device) Good (Says plain)
-  stepped = stepped-also plain (alone plain device) IsCold IsCalm lasts-calm (Says plain) (cold-stepped standing_cold plain is_plain device (Says plain) (group-stepped plain is_plain (calm device) (Says plain) (says-borne plain)))
+  stepped = stepped-also plain (alone plain device) IsCold IsCalm lasts-calm (Says plain) (cold-stepped standing_cold plain is_plain device (Says plain) (group-stepped 2 plain is_plain (calm device) (Says plain) (says-borne plain)))
 
   with-calm : (state : State Alone) → IsSteady plain IsCold state → IsCalm state.peers → IsSteady plain Good state
   with-calm state steady calm = record { sound = steady.sound; good = (steady.good, calm) }
@@ -146,7 +146,7 @@ stays-up plain is_plain shelf device next state outcome steady not_crash up arme
 
 pub settle-ends : ColdSettleEnds
 settle-ends plain is_plain device state steady up armed beside =
-    let spends = carried-also plain (alone plain device) IsCold IsCalm (lasts-calm plain is_plain device) Spends (cold-carries standing_cold plain is_plain device Spends (group-spends plain (calm device) is_plain)) in
+    let spends = carried-also plain (alone plain device) IsCold IsCalm (lasts-calm plain is_plain device) Spends (cold-carries standing_cold plain is_plain device Spends (group-spends 2 plain (calm device) is_plain)) in
     let ends = ending.settle-ends plain is_plain (alone plain device) (Good plain is_plain device) (serving plain is_plain device) spends state (with-calm plain is_plain device state steady (up, armed, beside)) in
     let outcome : Outcome (State Alone) = record { state = ends.state; told = without is_ignored ends.told } in
     let settles : Settles plain (alone plain device) state outcome.state outcome.told = record { lines = ends.told; rounds = ends.rounds; printed = refl } in

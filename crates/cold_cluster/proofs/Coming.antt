@@ -23,8 +23,8 @@ use Rattle.cold_cluster.specs.Falling.Restarts.{as_was, one_more}
 -- other counts, and up or down
 same-good : (state new : State Alone) → new.world ≡ state.world → new.peers.mirrored ≡ state.peers.mirrored → IsCold state → IsCold new
 same-good state new world peers good =
-    let G : State Alone → Type 0 = λ s. IsGroup (paired s) × IsBeside s.peers.mirrored in
-    (subst IsGroup (λ i. record { world = sym world i; peers = sym peers i }) good.0, subst IsBeside (sym peers) good.1)
+    let G : State Alone → Type 0 = λ s. IsGroup 2 (paired s) × IsBeside s.peers.mirrored in
+    (subst (IsGroup 2) (λ i. record { world = sym world i; peers = sym peers i }) good.0, subst IsBeside (sym peers) good.1)
 
 rest-beside : IsBeside at_rest.mirrored
 rest-beside = record { acting = refl; mark = Clear; keeps = false; seats = refl; unarmed = refl }

@@ -29,7 +29,7 @@ module _ (shown : State Alone → Standing) (plain : Plain) (is_plain : IsPlain 
   servers = group plain (calm device)
 
   abbrev besides : State Peers → Type 0
-  besides = Both plain servers IsGroup IsBeside (lasts-beside plain device)
+  besides = Both plain servers (IsGroup 2) IsBeside (lasts-beside plain device)
 
   cold-does : Does mirrored (cold shown plain device) servers
   cold-does = record {
@@ -43,14 +43,14 @@ module _ (shown : State Alone → Standing) (plain : Plain) (is_plain : IsPlain 
   pub cold-serves : IsServing plain (cold shown plain device) IsCold
   cold-serves =
       serves-under mirrored (cold shown plain device) servers cold-does plain besides
-      (serving-also plain servers IsGroup IsBeside (lasts-beside plain device) (group-serves plain (calm device) is_plain))
+      (serving-also plain servers (IsGroup 2) IsBeside (lasts-beside plain device) (group-serves 2 plain (calm device) is_plain))
 
-  pub cold-carries : (R : World → World → List Told → Type 0) → IsCarried plain servers IsGroup R → IsCarried plain (cold shown plain device) IsCold R
+  pub cold-carries : (R : World → World → List Told → Type 0) → IsCarried plain servers (IsGroup 2) R → IsCarried plain (cold shown plain device) IsCold R
   cold-carries R carried =
       carries-under mirrored (cold shown plain device) servers cold-does plain besides R
-      (carried-also plain servers IsGroup IsBeside (lasts-beside plain device) R carried)
+      (carried-also plain servers (IsGroup 2) IsBeside (lasts-beside plain device) R carried)
 
-  pub cold-stepped : (R : World → World → List Told → Type 0) → AreStepped plain servers IsGroup R → AreStepped plain (cold shown plain device) IsCold R
+  pub cold-stepped : (R : World → World → List Told → Type 0) → AreStepped plain servers (IsGroup 2) R → AreStepped plain (cold shown plain device) IsCold R
   cold-stepped R stepped =
       are-stepped-under mirrored (cold shown plain device) servers cold-does plain besides R
-      (stepped-also plain servers IsGroup IsBeside (lasts-beside plain device) R stepped)
+      (stepped-also plain servers (IsGroup 2) IsBeside (lasts-beside plain device) R stepped)

@@ -35,10 +35,10 @@ use Rattle.cold_cluster.proofs.Doing.{cold-carries, cold-serves, cold-stepped}
 
 module _ (plain : Plain) (is_plain : IsPlain plain) where
   abbrev carried : (device : Device) → IsCarried plain (alone plain device) IsCold (Says plain)
-  carried device = cold-carries standing_cold plain is_plain device (Says plain) (group-says plain (calm device) is_plain)
+  carried device = cold-carries standing_cold plain is_plain device (Says plain) (group-says 2 plain (calm device) is_plain)
 
   abbrev stepped : (device : Device) → AreStepped plain (alone plain device) IsCold (Says plain)
-  stepped device = cold-stepped standing_cold plain is_plain device (Says plain) (group-stepped plain is_plain (calm device) (Says plain) (says-borne plain))
+  stepped device = cold-stepped standing_cold plain is_plain device (Says plain) (group-stepped 2 plain is_plain (calm device) (Says plain) (says-borne plain))
 
   pub falls : (state : State Alone) → IsSteady plain IsCold state → Keeps plain state (fallen state)
   falls state steady = fall-keeps plain is_plain (Says plain) (says-borne plain) state steady

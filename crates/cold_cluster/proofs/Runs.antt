@@ -43,7 +43,7 @@ keeps-promises plain is_plain shelf calls now places lines state told run =
 pub settle-settles : ColdSettleSettles
 settle-settles plain is_plain shelf calls device now places lines state new told printed run settles =
     let steady = (run-says plain is_plain shelf calls now places lines state told run).0 in
-    let spends = cold-carries standing_cold plain is_plain device Spends (group-spends plain (calm device) is_plain) in
+    let spends = cold-carries standing_cold plain is_plain device Spends (group-spends 2 plain (calm device) is_plain) in
     ending.settle-settles plain is_plain (alone plain device) IsCold (cold-serves standing_cold plain is_plain device) spends state new settles.lines steady settles.rounds
 
 pub end-keeps : ColdEndKeeps

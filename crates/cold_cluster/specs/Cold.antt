@@ -86,7 +86,7 @@ pub record IsBeside (peers : Peers) : Type 0 where
 
 -- what holds of them at all times
 abbrev pub IsCold : State Alone → Type 0
-IsCold state = IsGroup (paired state) × IsBeside state.peers.mirrored
+IsCold state = IsGroup 2 (paired state) × IsBeside state.peers.mirrored
 
 -- the server is up, nothing is on the way, and no disk is armed
 abbrev pub at_rest : Alone

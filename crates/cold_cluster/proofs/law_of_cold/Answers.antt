@@ -9,8 +9,8 @@ use Rattle.cold_cluster.proofs.law_of_cold.Goals as goal
 pub returns : goal.returns
 returns c = record {
   serves = λ shown plain device is_plain. cold-serves shown plain is_plain device;
-  spends = λ shown plain device is_plain. cold-carries shown plain is_plain device Spends (group-spends plain (calm device) is_plain);
-  says = λ shown plain device is_plain. cold-carries shown plain is_plain device (Says plain) (group-says plain (calm device) is_plain);
+  spends = λ shown plain device is_plain. cold-carries shown plain is_plain device Spends (group-spends 2 plain (calm device) is_plain);
+  says = λ shown plain device is_plain. cold-carries shown plain is_plain device (Says plain) (group-says 2 plain (calm device) is_plain);
   stepped = λ shown plain device is_plain.
-      cold-stepped shown plain is_plain device (Says plain) (group-stepped plain is_plain (calm device) (Says plain) (says-borne plain));
+      cold-stepped shown plain is_plain device (Says plain) (group-stepped 2 plain is_plain (calm device) (Says plain) (says-borne plain));
 }
