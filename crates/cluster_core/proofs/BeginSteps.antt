@@ -40,7 +40,7 @@ use Rattle.cluster_core.proofs.BeginSpelled.{spelled-begins}
 good-start : (setup : Setup) (places : ℕ) → CanBegin setup → IsGood setup (pair_start setup.start places)
 good-start setup places begins = record {
   begins = begins;
-  steady = start-steady (plain_of setup) (B ∷ []) refl setup.start places;
+  steady = start-steady 2 (plain_of setup) (B ∷ []) refl setup.start places;
   range = tt;
   moment = begins.start;
 }

@@ -1,5 +1,5 @@
 -- An event of a world is one of its parts.
-use Rattle.std.proofs.Common.{◌≡◌, ℕ, ◌≤◌, Option, Some, None, List, [], ◌++◌, refl, ap, sym, ◌∙◌, subst, arith}
+use Rattle.std.proofs.Common.{◌≡◌, ℕ, suc, ◌≤◌, Option, Some, None, List, [], ◌++◌, refl, ap, sym, ◌∙◌, subst, arith}
 use Rattle.std.proofs.lemmas.Bool.{ltb-true}
 use Rattle.std.specs.Prelude.{ℤ, IfSome, option_map}
 use Rattle.disk_model.specs.Disk.{Files}
@@ -105,6 +105,9 @@ can-play now (line.Cluster start queue callbacks alarm ntf sys) can = can
 can-play now (line.Time later) can = can
 can-play now _ can = tt
 
+at-most-one : (standbys : ℕ) → suc standbys ≤ 2 → standbys ≤ 1
+at-most-one standbys few = omega arith
+
 -- with one standby at most no crash outlives a fault
 few-fell : (standbys : ℕ) (next : Line) (before now : ℕ) (told : List Told) → standbys ≤ 1 → FellIn standbys next before now told → FellIn 1 next before now told
 few-fell standbys (line.Crash server) before now told few fell = λ less. let more = ltb-true 1 standbys (fell less).0 in absurd (omega arith)
@@ -127,7 +130,7 @@ does-event next old new before after lines held left none same whole setup state
         shown = done.shelf_is;
         step = record { fails = done.happened; happens = done.leads; caused = done.uses.caused };
         later = done.uses.later;
-        felled = few-fell (count_seats is_standby state.peers.seats) next held.faults left.faults done.outcome.told (few-standbys state.peers.acting state.peers.seats good.steady.good.names good.steady.good.acts good.steady.good.apart) done.uses.felled;
+        felled = few-fell (count_seats is_standby state.peers.seats) next held.faults left.faults done.outcome.told (at-most-one (count_seats is_standby state.peers.seats) (few-standbys 2 state.peers.acting state.peers.seats good.steady.good.names good.steady.good.acts good.steady.good.apart)) done.uses.felled;
         counts =
             let C : Option Files → Type 0 = λ shown. CountsLine next (device_by setup done.happened) shown state done.outcome.state (counters_of held) (counters_of left) in
             subst C (files-told held.files (files_of setup state.world.core.answered) tells) done.uses.counts;

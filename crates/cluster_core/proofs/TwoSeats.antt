@@ -38,7 +38,7 @@ abbrev second_name : List Server → Server
 second_name [] = A
 second_name (server ∷ servers) = first_name servers
 
-pub are-two : (acting : Server) (seats : List defined.Seat) → IsApart acting seats → AreNames (names_of seats) → is_named acting (names_of seats) ≡ true → AreTwo acting seats
+pub are-two : (acting : Server) (seats : List defined.Seat) → IsApart acting seats → AreNames 2 (names_of seats) → is_named acting (names_of seats) ≡ true → AreTwo acting seats
 are-two acting [] apart names acts = cc
 are-two acting (one ∷ []) apart names acts = cc
 are-two A (one ∷ other ∷ []) apart names acts =
@@ -57,7 +57,7 @@ are-two C (one ∷ other ∷ []) apart names acts =
 are-two acting (one ∷ other ∷ more ∷ seats) apart names acts = cc
 
 -- **a good state is one of two servers**
-pub two-good : (state : State Peers) → IsGroup state → AreTwo state.peers.acting state.peers.seats
+pub two-good : (state : State Peers) → IsGroup 2 state → AreTwo state.peers.acting state.peers.seats
 two-good state good = are-two state.peers.acting state.peers.seats good.apart good.names good.acts
 
 -- the seats of the code, in the order in which a world puts them together
@@ -79,7 +79,7 @@ bare-as setup past hand B stance = refl
 bare-as setup past hand C stance = refl
 
 -- those at a good state
-pub shown-beside : (setup : Setup) (state : State Peers) (servers : Group 2) → IsGroup state → servers ≡ servers_of 2 setup state → AreBeside servers.acting servers.seats
+pub shown-beside : (setup : Setup) (state : State Peers) (servers : Group 2) → IsGroup 2 state → servers ≡ servers_of 2 setup state → AreBeside servers.acting servers.seats
 shown-beside setup state servers good own =
     let core = state.world.core in
     let two = two-good state good in
@@ -98,7 +98,7 @@ shown-beside setup state servers good own =
     }
 
 -- and those that are left where no server is active
-pub fallen-beside : (setup : Setup) (state : State Peers) (servers : Group 2) → IsGroup state → servers.acting ≡ state.peers.acting → servers.seats ≡ bare setup state.world.core.answered Empty state.peers.seats → AreBeside servers.acting servers.seats
+pub fallen-beside : (setup : Setup) (state : State Peers) (servers : Group 2) → IsGroup 2 state → servers.acting ≡ state.peers.acting → servers.seats ≡ bare setup state.world.core.answered Empty state.peers.seats → AreBeside servers.acting servers.seats
 fallen-beside setup state servers good same fell =
     let past = state.world.core.answered in
     let two = two-good state good in

@@ -56,48 +56,48 @@ still-told one (Some told) files = refl
 
 done-facts :
     (setup : Setup) (held : Option Files) (before : Counters) (next : Line) (state : State Peers) (outcome : Outcome (State Peers)) (after : Counters)
-    → IsSteady (plain_of setup) IsGroup state → LineDone setup held before next state outcome after → DoneFacts world_game setup next state outcome
+    → IsSteady (plain_of setup) (IsGroup 2) state → LineDone setup held before next state outcome after → DoneFacts world_game setup next state outcome
 done-facts setup held before next state outcome after steady done =
     let plain = plain_of setup in
     let device = device_in done in
     let happens = done.step.happens in
     record {
-      keeps = group-kept plain (is_plain setup) done.shelf device next state outcome steady happens;
+      keeps = group-kept 2 plain (is_plain setup) done.shelf device next state outcome steady happens;
       in_time =
-          (walking.group-walks plain (is_plain setup) done.shelf device InTime (in_time-told plain) in_time-cored
+          (walking.group-walks 2 plain (is_plain setup) done.shelf device InTime (in_time-told plain) in_time-cored
           (in_time-by-kind plain) next state outcome steady happens).1;
       refuses =
-          (walking.group-walks plain (is_plain setup) done.shelf device Refuses (refuses-told plain) refuses-cored
+          (walking.group-walks 2 plain (is_plain setup) done.shelf device Refuses (refuses-told plain) refuses-cored
           (refuses-by-kind plain) next state outcome steady happens).1;
       waits =
-          (walking.group-walks plain (is_plain setup) done.shelf device Waits (passes-told plain) passes-cored
+          (walking.group-walks 2 plain (is_plain setup) done.shelf device Waits (passes-told plain) passes-cored
           (waits-by-kind plain) next state outcome steady happens).1;
     }
 
 end-facts :
     (setup : Setup) (state : State Peers) (next : Line) (told : List Told) (held left : DiskSeen) (world : World)
-    → (ended : EventEnded setup state next told held left world) → IsSteady (plain_of setup) IsGroup state
+    → (ended : EventEnded setup state next told held left world) → IsSteady (plain_of setup) (IsGroup 2) state
     → EndFacts world_game setup next state ended.end
 end-facts setup state next told held left world ended steady =
     let plain = plain_of setup in
     let device = device_by setup ended.happened in
-    let last = line-tells plain (is_plain setup) device next state ended.end steady ended.ends in
+    let last = line-tells 2 plain (is_plain setup) device next state ended.end steady ended.ends in
     record {
       keeps = last.0;
       idle = last.1;
-      lacks = λ calm. line-lacks plain (is_plain setup) device next state ended.end steady calm ended.ends;
+      lacks = λ calm. line-lacks 2 plain (is_plain setup) device next state ended.end steady calm ended.ends;
     }
 
 settle-settled :
     (setup : Setup) (held : Option Files) (before : Counters) (state : State Peers) (outcome : Outcome (State Peers)) (after : Counters)
-    → IsSteady (plain_of setup) IsGroup state → LineDone setup held before line.Settle state outcome after
+    → IsSteady (plain_of setup) (IsGroup 2) state → LineDone setup held before line.Settle state outcome after
     → IsSettled (plain_of setup) outcome.state.world
 settle-settled setup held before state outcome after steady done =
     let plain = plain_of setup in
     let device = device_in done in
     let happens = done.step.happens in
-    settle-settles plain (is_plain setup) (group plain device) IsGroup (group-serves plain device (is_plain setup)) (group-spends plain device (is_plain setup))
-    state outcome.state happens.lines steady happens.rounds
+    settle-settles plain (is_plain setup) (group plain device) (IsGroup 2) (group-serves 2 plain device (is_plain setup))
+    (group-spends 2 plain device (is_plain setup)) state outcome.state happens.lines steady happens.rounds
 
 -- the line that is shared
 abbrev line_in : Option Line → Line
@@ -106,7 +106,7 @@ line_in (Some next) = next
 
 settled :
     (setup : Setup) (held : Option Files) (before : Counters) (next : Line) (state : State Peers) (outcome : Outcome (State Peers)) (after : Counters)
-    → Some next ≡ Some line.Settle → IsSteady (plain_of setup) IsGroup state → LineDone setup held before next state outcome after
+    → Some next ≡ Some line.Settle → IsSteady (plain_of setup) (IsGroup 2) state → LineDone setup held before next state outcome after
     → IsSettled (plain_of setup) outcome.state.world
 settled setup held before next state outcome after is steady done =
     settle-settled setup held before state outcome after steady
@@ -114,7 +114,7 @@ settled setup held before next state outcome after is steady done =
 
 pub world_plays : IsGame world_game
 world_plays = record {
-  steady = λ setup places. start-steady (plain_of setup) (B ∷ []) refl setup.start places;
+  steady = λ setup places. start-steady 2 (plain_of setup) (B ∷ []) refl setup.start places;
   empty = λ setup places. refl;
   unarmed = λ setup places. refl;
   clock = λ peers world. refl;

@@ -1,14 +1,13 @@
 -- What a crash of the active server comes to.
-use Rattle.std.proofs.Common.{◌≡◌, ℕ, suc, ◌+◌, ◌≤◌, ◌⊎◌, inl, inr, Bool, true, false, ◌&&◌, ◌||◌, nat_le, if◌then◌else◌, is_some, Option, Some, None, List, [], ◌∷◌, ◌++◌, length, refl, ap, sym, ◌∙◌, subst, arith, append-nil}
+use Rattle.std.proofs.Common.{◌≡◌, ℕ, zero, suc, ◌+◌, ◌≤◌, ◌<◌, ◌-◌, ◌⊎◌, inl, inr, Bool, true, false, ◌&&◌, ◌||◌, nat_le, nat_lt, if◌then◌else◌, is_some, Option, Some, None, List, [], ◌∷◌, ◌++◌, length, refl, ap, sym, ◌∙◌, subst, arith, le_refl, append-nil}
 use Rattle.std.specs.Prelude.{Result, Ok, Err, OnOk, IfErr}
 use Rattle.std.specs.List.{AllByRecursion, list_any}
 use Rattle.std.specs.Option.{option_to_list}
+use Rattle.std.proofs.lemmas.Bool.{lt-ltb}
 use Rattle.std.proofs.lemmas.Bool.Decides.{leb_tells}
 use Rattle.disk_model.specs.declared.answers.DiskAnswer.{DiskAnswer}
 use Rattle.disk_model.specs.declared.answers.DiskAnswer.TheVariants.{Memory, Failed, Stopped}
 use Rattle.disk_model.specs.Seen.{DiskSeen}
-use Rattle.disk_model.specs.Counts.{many_more}
-use Rattle.disk_model.specs.declared.tally.Tally.{Tally}
 use Rattle.script_lines.specs.declared.line.Line.TheVariants as line
 use Rattle.script_lines.specs.declared.line.Server.{Server}
 use Rattle.plain_service.specs.Setups.{Setup}
@@ -23,11 +22,11 @@ use Rattle.mirror.specs.declared.state.NodeState.{NodeState as Node}
 use Rattle.mirror.proofs.ReplicaLaws.{count-is}
 use Rattle.lead_server.specs.Parting.{waiting_in, waiting_lines}
 use Rattle.group_cluster.specs.Seats as defined
-use Rattle.group_cluster.specs.Seats.{Peers, any_seat, count_seats, is_named, names_of, same_server, is_standby}
-use Rattle.group_cluster.specs.Falling.{catches, caught, caught_seats, caught_hand, caught_lines, is_fresh, crash, crash_active, crash_by, takes, taken_over}
+use Rattle.group_cluster.specs.Seats.{Peers, any_seat, count_seats, same_server, is_standby, is_up}
+use Rattle.group_cluster.specs.Falling.{catches, caught, caught_seats, caught_hand, caught_lines, failing, is_fresh, crash, crash_active, crash_by, takes, taken_over}
 use Rattle.group_cluster.specs.Ended.{HasCalls, ended}
 use Rattle.group_cluster.proofs.Crashing.{caught-standby as stands-caught}
-use Rattle.group_cluster.proofs.Seating.{any-none, apart-caught, any-on, names-caught, same-is}
+use Rattle.group_cluster.proofs.Seating.{any-none, any-on, same-is}
 use Rattle.group_cluster.proofs.Sounding.{caught-accepts}
 use Rattle.cluster_clients.specs.Clients.{ShowsAgents}
 use Rattle.cluster_clients.specs.Spelled.{AreSpelled}
@@ -44,43 +43,43 @@ use Rattle.cluster_lines.specs.Playing.{BreaksOff, EndsLine, LineEnded}
 use Rattle.group_servers.specs.declared.group.Seat.{Seat}
 use Rattle.group_servers.specs.declared.group.Group.{Group}
 use Rattle.group_servers.specs.Caught.{CatchesIf, PutsCaught, taken_if}
-use Rattle.group_servers.specs.Deals.{fell_behind, total}
+use Rattle.group_servers.specs.Deals.{AreSome, Spent, Taking, fell_behind, last_calls, total}
 use Rattle.group_servers.specs.Falls.{IsFitSeat, TookOver, AllFell, FellPartly, all_wayless}
 use Rattle.group_servers.specs.Followed.{row_calls}
-use Rattle.group_servers.specs.GroupCounts.{CountsCrash, CrashEnded, Crashed, FaultsLine, LacksGroup, count_up, fell_first, kept_calls, last_calls}
+use Rattle.group_servers.specs.GroupCounts.{CountsCrash, CrashEnded, Crashed, FaultsLine, LacksGroup, UsesLine, count_up, fell_first, kept_calls}
 use Rattle.group_servers.specs.GroupKit.{group_kit, group_script}
 use Rattle.group_servers.specs.GroupLaws.{group_laws}
 use Rattle.group_servers.specs.GroupNodes.{active_by, waits_by, seats_by, bare}
-use Rattle.group_servers.specs.GroupScript.{calm-uses}
-use Rattle.group_servers.specs.GroupUses.{lacks-quiet, spent-as}
+use Rattle.group_servers.specs.GroupUses.{dealt-none, lacks-quiet, spent-as}
 use Rattle.group_servers.specs.Parted.{leads}
 use Rattle.group_servers.specs.Prepared.{Prepares, Falls, fell}
 use Rattle.group_servers.specs.Seats as code
 use Rattle.group_servers.specs.Lines.{takers}
-use Rattle.group_servers.specs.Steps.{crashed_by}
+use Rattle.group_servers.specs.Steps.{Crashes, CrashesOn, crashed_by}
 use Rattle.group_servers.specs.Tried.{Makes, Row, Tried}
 use Rattle.group_servers.specs.Tries.{TriesPartly, Tries}
-use Rattle.group_servers.proofs.DealSteps.{sum-none}
+use Rattle.group_servers.proofs.DealSteps.{before-caused, stops-caused, stops-row, stops-tell, stops_before, stops_with, sum-none}
 use Rattle.group_servers.proofs.DeliverSteps.{MayCome}
 use Rattle.group_servers.proofs.EndSteps.{ended-as}
 use Rattle.group_servers.proofs.FallLines.{takers-named, takers-wayless}
 use Rattle.group_servers.proofs.FallShows.{TellsCount}
-use Rattle.group_servers.proofs.FallSteps.{wayless-bare, caught-bare, fit-seats, few-of, few-standbys, count-some, tried, failed-are, took-own, took-up, took-lines, took-unarmed, took-files, plain-good, stale, fell-fell, fell-lines, fell-last, fell-calls, fell-files, all-tried, named-long, partly-armed}
+use Rattle.group_servers.proofs.FallSteps.{wayless-bare, caught-bare, fit-seats, few-of, count-some, tried, failed-are, took-own, took-lines, took-unarmed, took-later, took-caused, took-up, took-files, plain-good, stale, fell-fell, fell-lines, fell-last, fell-calls, fell-files, fell-many, fell-up, all-tried, named-long, partly-armed, partly-unarmed, tries-unarmed}
 use Rattle.group_servers.proofs.GoodSteps.{answered-history, accepted-history}
-use Rattle.group_servers.proofs.GroupFiles.{rest-goes-on}
-use Rattle.group_servers.proofs.MadeSteps.{partly-made, partly-still, tries-made, tries-quiet, tries-still}
+use Rattle.group_servers.proofs.GroupFiles.{rest-goes-on, some-calls-so}
+use Rattle.group_servers.proofs.MadeSteps.{tries-still}
 use Rattle.group_servers.proofs.MirrorSteps.{may-come}
-use Rattle.group_servers.proofs.OverSteps.{over-state, over-says}
-use Rattle.group_servers.proofs.RowSteps.{row-long, spent-start}
+use Rattle.group_servers.proofs.OverSteps.{over-down, over-state, over-says}
+use Rattle.group_servers.proofs.RowSteps.{partly-row, row-long, spent-start}
 use Rattle.group_servers.proofs.SeatSteps.{catches-is, fresh-bare}
 use Rattle.group_servers.proofs.TriedFiles.{all-follow, all-make, partly-leaves, fall-leaves}
+use Rattle.group_servers.proofs.TriedSteps.{tried-so}
+use Rattle.group_servers.proofs.UpSteps.{caught-up, standbys-up}
 use Rattle.group_servers.proofs.WorkCame.{standby-shown}
 
 pub both-true : (one other : Bool) → (one && other) ≡ true → (one ≡ true) × (other ≡ true)
 both-true true true is = (refl, refl)
 both-true true false is = cc
 both-true false other is = cc
-use Rattle.group_servers.proofs.UpSteps.{ended-up}
 
 -- The standbys catch up, if one has the entry.
 
@@ -133,16 +132,32 @@ has-calls : (setup : Setup) (fails : ℕ → ℕ) (history : List Entry) → 1 �
 has-calls setup fails [] some = absurd (omega arith)
 has-calls setup fails (entry ∷ past) some = some
 
--- Of one standby none fell before it.
+-- How many fell, by the row of those that failed as they took over.
 
-none-behind : (made : List ℕ) → length made ≡ 0 → 0 ≡ fell_behind made
-none-behind [] none = refl
-none-behind (one ∷ made) none = let is = none in absurd (omega arith)
+stops-behind : (made : List ℕ) → stops_with (length made) ≡ fell_behind made
+stops-behind [] = refl
+stops-behind (one ∷ made) = refl
 
-none-first : (made : List ℕ) → length made ≤ 1 → 0 ≡ fell_first made
-none-first [] few = refl
-none-first (one ∷ []) few = refl
-none-first (one ∷ other ∷ made) few = let is = few in absurd (omega arith)
+before-first : (made : List ℕ) → stops_before (length made) ≡ fell_first made
+before-first [] = refl
+before-first (one ∷ []) = refl
+before-first (one ∷ other ∷ made) = refl
+
+-- the last one of a row is not told by the works that failed
+failing-row : (setup : Setup) (history : List Entry) (fails many : ℕ) → 1 ≤ length (row_calls setup false history) → many ≤ suc (fails - 1) → many ≤ suc (failing (device_by setup (λ number. fails)) history)
+failing-row setup [] fails many some row = absurd (omega arith)
+failing-row setup (entry ∷ past) fails many some row =
+    let calls = length (row_calls setup false (entry ∷ past)) in
+    subst (λ (b : Bool). many ≤ suc (if b then fails - 1 else 0)) (sym (some-calls-so calls some)) row
+
+-- as many are standby once all have the entry in hand
+caught-many : (catching : Bool) (owns : List defined.Seat) → count_seats is_standby (caught_seats catching owns) ≡ count_seats is_standby owns
+caught-many true [] = refl
+caught-many true (own ∷ owns) = λ i. (if stands-caught own.stance i then 1 else 0) + caught-many true owns i
+caught-many false owns = refl
+
+less-up : (made takers standbys beside up : ℕ) → suc made ≤ takers → takers ≤ standbys → standbys ≤ beside → beside ≡ up → 0 + suc made ≤ up
+less-up made takers standbys beside up first second third is = omega arith
 
 module _ (n : ℕ) where
   -- what the code knows of the state where the active server crashes
@@ -216,24 +231,25 @@ module _ (n : ℕ) where
     some-standby : any_seat is_standby state.peers.seats ≡ true → 1 ≤ count_seats is_standby owns
     some-standby standby = count-some is_standby owns (caught-standby catching_so state.peers.seats ∙ standby)
 
-    few : count_seats is_standby owns ≤ 1
-    few =
-        let same : names_of owns ≡ names_of state.peers.seats = names-caught catching_so state.peers.seats in
-        few-standbys state.peers.acting owns (same ∙ good.steady.good.names) (ap (is_named state.peers.acting) same ∙ good.steady.good.acts) (apart-caught state.peers.acting catching_so state.peers.seats good.steady.good.apart)
+    -- more than one where one of them failed before another took over
+    two-stand : (count : ℕ) → 1 ≤ count → count < count_seats (takes fresh) owns → nat_lt 1 (count_seats is_standby state.peers.seats) ≡ true
+    two-stand count some less =
+        let most = few-of fresh owns in
+        let same = caught-many catching_so state.peers.seats in
+        lt-ltb 1 (count_seats is_standby state.peers.seats) (omega arith)
 
     -- those that may take over make the calls of the deeds that are kept
-    kept-long : length (row_calls setup fresh history) ≡ kept_calls (device_by setup (λ number. 0)) state
-    kept-long =
-        row-long setup (λ number. 0) fresh history
-        ∙ ap (λ (f : Bool). if f then 0 else last_calls (device_by setup (λ number. 0)) history) (sym fresh-so)
+    kept-long : (fails : ℕ → ℕ) → length (row_calls setup fresh history) ≡ kept_calls (device_by setup fails) state
+    kept-long fails =
+        row-long setup fails fresh history ∙ ap (λ (f : Bool). if f then 0 else last_calls (device_by setup fails) history) (sym fresh-so)
 
     makes-row : AllByRecursion (Makes (row_calls setup fresh history) fresh) (bare setup past (caught_hand catching_so hand) owns)
     makes-row =
         all-make setup past (caught_hand catching_so hand) fresh owns (all-follow past hand state.peers.seats catching_so refl good.steady.good.agree) (λ no. any-none is_fresh owns (fresh-so ∙ no))
 
-    own-row : (news : List Seat) (found : Option ℕ) (start left : DiskSeen) → (row : Tried setup past (caught_hand catching_so hand) fresh owns news found start left) → Row (kept_calls (device_by setup (λ number. 0)) state) row.count (is_some found) start left
-    own-row news found start left row =
-        subst (λ (k : ℕ). Row k row.count (is_some found) start left) kept-long (row.row (row_calls setup fresh history) makes-row)
+    own-row : (fails : ℕ → ℕ) (news : List Seat) (found : Option ℕ) (start left : DiskSeen) → (row : Tried setup past (caught_hand catching_so hand) fresh owns news found start left) → Row (kept_calls (device_by setup fails) state) row.count (is_some found) start left
+    own-row fails news found start left row =
+        subst (λ (k : ℕ). Row k row.count (is_some found) start left) (kept-long fails) (row.row (row_calls setup fresh history) makes-row)
 
     module _ (new : Cluster (Group n)) (after : List (List ℕ)) (held left : DiskSeen) (result : Result (Unit {0}) DiskAnswer) (falls : Falls catching fresh result mid new prepared.front after held left) (standby : any_seat is_standby state.peers.seats ≡ true) where
       net-is : new.net ≡ old.net
@@ -254,127 +270,187 @@ module _ (n : ℕ) where
           prepared-entries past hand state.peers.seats catching_so new.history.entries refl
           (falls.entries ∙ (λ i. option_to_list (taken_if (catching-is i) (waits i)) ++ (prepared.entries ∙ shows.history) i))
 
-      abbrev over : Outcome (State Peers)
-      over = taken_over (device_by setup (λ number. 0)) state
+      abbrev over : (ℕ → ℕ) → Outcome (State Peers)
+      over fails = taken_over (device_by setup fails) state
 
-      -- **a standby took over**: none failed before it
+      -- **a standby took over**, behind those that failed
       module _ (took : TookOver fresh (fell mid.servers) new.servers prepared.front after held left) where
         abbrev row : Tried setup past (caught_hand catching_so hand) fresh owns took.tried (Some took.place) took.start left
         row = tried n setup state good (fell mid.servers) new.servers fresh prepared.front after held left seats-are fresh-so acting-is refl took
 
-        none-failed : row.count ≡ 0
-        none-failed =
-            let less = row.next.0 in
-            let most = few-of fresh owns in
-            let one = few in
-            omega arith
+        -- the server that crashed is the first that fell, where one failed
+        abbrev fell_so : ℕ → ℕ
+        fell_so = λ number. stops_with row.count
 
-        tells : TellsCount n setup state good.steady.good.names good.steady.good.agree took.start left (λ number. 0) row.count
-        tells number = inr (none-failed, refl)
+        tells : TellsCount n setup state good.steady.good.names good.steady.good.agree took.start left fell_so row.count
+        tells number = stops-tell row.count
 
-        -- so the disk had no fault
-        pub no-fault : left.faults ≡ held.faults
-        no-fault =
-            let failed = failed-are n setup state good (fell mid.servers) new.servers fresh prepared.front after held left seats-are fresh-so acting-is refl took ∙ none-failed in
+        later-so : held.faults ≤ left.faults
+        later-so = took-later n setup state good (fell mid.servers) new.servers fresh prepared.front after held left seats-are fresh-so acting-is refl took
+
+        -- where none failed the disk had no fault
+        no-fault : row.count ≡ 0 → left.faults ≡ held.faults
+        no-fault none =
+            let failed = failed-are n setup state good (fell mid.servers) new.servers fresh prepared.front after held left seats-are fresh-so acting-is refl took ∙ none in
             let counted = took.counted in
             let same = ap length (takers-wayless fresh mid.servers.seats) in
             tries-still fresh (all_wayless mid.servers.seats) took.tried (Some took.place) took.place took.start left refl took.tries (omega arith) ∙ took.started.faults
 
-        over-happened : Happened (group_kit n) setup over new before after
+        -- so a fault is outlived by more than one standby alone
+        outlived : held.faults < left.faults → nat_lt 1 (count_seats is_standby state.peers.seats) ≡ true
+        outlived less = by row.count refl
+          where
+            by : (count : ℕ) → row.count ≡ count → nat_lt 1 (count_seats is_standby state.peers.seats) ≡ true
+            by zero none = let same = no-fault none in absurd (omega arith)
+            by (suc count) is = two-stand row.count (subst (λ (k : ℕ). 1 ≤ k) (sym is) (omega arith)) row.next.0
+
+        over-happened : Happened (group_kit n) setup (over fell_so) new before after
         over-happened = (
           record {
-            own = took-own n setup state good (fell mid.servers) new.servers fresh prepared.front after held left seats-are fresh-so acting-is refl took (λ number. 0) tells;
+            own = took-own n setup state good (fell mid.servers) new.servers fresh prepared.front after held left seats-are fresh-so acting-is refl took fell_so tells;
             net = subst (λ m. AreSpelled state.world.net m) (sym net-is) shows.net;
-            agents = subst (λ a. ShowsAgents over.state.world a) (sym agents-are) (agents-as state.world over.state.world old.agents refl refl refl shows.agents);
+            agents = subst (λ a. ShowsAgents (over fell_so).state.world a) (sym agents-are) (agents-as state.world (over fell_so).state.world old.agents refl refl refl shows.agents);
             history = entries-are;
             now = now-is ∙ shows.now;
             callbacks = callbacks-are ∙ shows.callbacks;
           },
-          over-state setup state n good (λ number. 0),
-          took-lines n setup state good (fell mid.servers) new.servers fresh prepared.front after held left seats-are fresh-so acting-is refl took (λ number. 0) before tells front-is,
+          over-state setup state n good fell_so,
+          took-lines n setup state good (fell mid.servers) new.servers fresh prepared.front after held left seats-are fresh-so acting-is refl took fell_so before tells front-is,
         )
 
-        -- and the disk counted the calls of the deeds that it kept
-        crashed : Crashed (device_by setup (λ number. 0)) state over.state (counters_of held) (counters_of left)
+        -- and the disk counted the calls of the deeds that they kept
+        crashed : Crashed (device_by setup fell_so) state (over fell_so).state (counters_of held) (counters_of left)
         crashed =
-            let counted = own-row took.tried (Some took.place) took.start left row in
+            let counted = own-row fell_so took.tried (Some took.place) took.start left row in
             let made = counted.made in
             record {
               row = made;
-              downs =
-                  subst (λ (k : ℕ). count_up state ≡ suc k + count_up over.state) (sym counted.long)
-                  (took-up n setup state good (fell mid.servers) new.servers fresh prepared.front after held left seats-are fresh-so acting-is refl took (λ number. 0) tells);
-              fell = none-behind made (counted.long ∙ none-failed);
+              downs = subst (λ (k : ℕ). count_up state ≡ suc k + count_up (over fell_so).state) (sym counted.long) (took-up n setup state good (fell mid.servers) new.servers fresh prepared.front after held left seats-are fresh-so acting-is refl took fell_so tells);
+              fell = ap stops_with (sym counted.long) ∙ stops-behind made;
               some = counted.some;
-              spent = spent-start (total made + kept_calls (device_by setup (λ number. 0)) state) (length made) 0 held took.start left took.started counted.spent;
+              spent = spent-start (total made + kept_calls (device_by setup fell_so) state) (length made) 0 held took.start left took.started counted.spent;
             }
 
         over-unarmed : left.tally.armed ≡ None
         over-unarmed = took-unarmed n setup state good (fell mid.servers) new.servers fresh prepared.front after held left seats-are fresh-so acting-is refl took
 
-        over-files : TellsFiles setup state held.files → LeavesFiles setup over.state held.files left.files
+        over-files : TellsFiles setup state held.files → LeavesFiles setup (over fell_so).state held.files left.files
         over-files told =
-            took-files n setup state good (fell mid.servers) new.servers fresh prepared.front after held left seats-are fresh-so acting-is refl took (λ number. 0) held.files standby (rest-goes-on setup state held.files told)
+            took-files n setup state good (fell mid.servers) new.servers fresh prepared.front after held left seats-are fresh-so acting-is refl took fell_so held.files standby (rest-goes-on setup state held.files told)
 
-      -- **memory was wanting**: what was committed stays so, and none failed before
+        over-crashes : (server : Server) → (same_server server state.peers.acting && any_seat is_standby state.peers.seats) ≡ true → ((f : ℕ → ℕ) → crash (device_by setup f) server state ≡ over f) → Crashes n server setup state new before after held left
+        over-crashes server leads_so is = record {
+          fails = fell_so;
+          is = subst (λ (o : Outcome (State Peers)). Happened (group_kit n) setup o new before after) (sym (is fell_so)) over-happened;
+          count = subst (λ (o : Outcome (State Peers)). left.tally.armed ≡ o.state.peers.armed) (sym (is fell_so)) over-unarmed;
+          files = λ told. subst (λ (o : Outcome (State Peers)). LeavesFiles setup o.state held.files left.files) (sym (is fell_so)) (over-files told);
+          uses = subst (λ (o : Outcome (State Peers)). UsesLine setup (line.Crash server) fell_so state o held.files (counters_of held) (counters_of left)) (sym (is fell_so)) (record {
+            caused = stops-caused row.count held.faults left.faults (took-caused n setup state good (fell mid.servers) new.servers fresh prepared.front after held left seats-are fresh-so acting-is refl took);
+            later = later-so;
+            felled = λ less. (outlived less, over-down setup state fell_so);
+            counts = subst (λ (b : Bool). CountsCrash b (device_by setup fell_so) state (over fell_so).state (counters_of held) (counters_of left)) (sym leads_so) crashed;
+          });
+        }
+
+      -- **memory was wanting**: what was committed stays so, and some may have failed before
       crash-partly : FellPartly fresh mid.servers.seats new.servers.armed held left → (Broken (group_kit n)) setup state held left new × LacksGroup setup state new.history.entries new.servers.armed (counters_of held) (counters_of left)
       crash-partly partly = (
-        (whole-broken (group_kit n) (group_laws n)) setup state over.state over.told held left new (over-state setup state n good (λ number. 0)).steady.sound (over-says setup state n good (λ number. 0))
+        (whole-broken (group_kit n) (group_laws n)) setup state (over (λ number. 0)).state (over (λ number. 0)).told held left new (over-state setup state n good (λ number. 0)).steady.sound (over-says setup state n good (λ number. 0))
             (subst (λ m. AreSpelled state.world.net m) (sym net-is) shows.net)
-            (subst (λ a. ShowsAgents over.state.world a) (sym agents-are) (agents-as state.world over.state.world old.agents refl refl refl shows.agents))
+            (subst (λ a. ShowsAgents (over (λ number. 0)).state.world a) (sym agents-are) (agents-as state.world (over (λ number. 0)).state.world old.agents refl refl refl shows.agents))
             entries-are (now-is ∙ shows.now) (λ is. partly-armed fresh mid.servers.seats new.servers.armed held left partly) (λ told. files-so told partly.part),
-        lacks-quiet setup state new.history.entries new.servers.armed (made-so partly.part).0 (counters_of held) (counters_of left) (subst (λ (entries : List Entry). EndsIn entries past) (sym entries-are) (committed-ends past (caught_hand catching_so hand))) ((made-so partly.part).1 ∙ ap (λ (t : Tally). many_more (made-so partly.part).0 t.changing) partly.started.tally) ((quiet-so partly.part).0 ∙ partly.started.faults) ((quiet-so partly.part).1 ∙ partly.started.stops),
+        lacks-so partly.part,
       ) where
         T : List Seat → Type 0
         T seats = TriesPartly fresh seats partly.start left
 
         files-so : TellsFiles setup state held.files → TriesPartly fresh (all_wayless mid.servers.seats) partly.start left ⊎ ((seats : List Seat) × (place : ℕ) × Tries fresh (all_wayless mid.servers.seats) seats (Some place) partly.start left) → LeavesBetween setup history held.files left.files
-        files-so told (inl part) = partly-leaves setup state (plain-good n setup state good) standby held.files held.files (rest-goes-on setup state held.files told) fresh fresh-so partly.start left partly.started.files (subst T seats-are part)
+        files-so told (inl part) = partly-leaves n setup state (plain-good n setup state good) standby held.files held.files (rest-goes-on setup state held.files told) fresh fresh-so partly.start left partly.started.files (subst T seats-are part)
         files-so told (inr made) =
             let O : List Seat → Type 0 = λ seats. Tries fresh seats made.0 (Some made.1) partly.start left in
-            let leaves = fall-leaves setup state (plain-good n setup state good) standby held.files held.files (rest-goes-on setup state held.files told) fresh fresh-so made.0 (Some made.1) partly.start left partly.started.files (subst O seats-are made.2) in
+            let leaves = fall-leaves n setup state (plain-good n setup state good) standby held.files held.files (rest-goes-on setup state held.files told) fresh fresh-so made.0 (Some made.1) partly.start left partly.started.files (subst O seats-are made.2) in
             let behind = over-state setup state n good (λ number. 0) in
-            left-between setup over.state held.files left.files behind.begins behind.steady.sound behind.range leaves
+            left-between setup (over (λ number. 0)).state held.files left.files behind.begins behind.steady.sound behind.range leaves
 
-        few-takers : length (takers fresh (all_wayless mid.servers.seats)) ≤ 1
-        few-takers =
-            let many = ap (takers fresh) seats-are ∙ takers-named setup past (caught_hand catching_so hand) fresh owns in
-            let long = ap length many ∙ named-long (takes fresh) owns in
-            let most = few-of fresh owns in
-            let one = few in
-            omega arith
+        uncounted-so : TriesPartly fresh (all_wayless mid.servers.seats) partly.start left ⊎ ((seats : List Seat) × (place : ℕ) × Tries fresh (all_wayless mid.servers.seats) seats (Some place) partly.start left) → left.tally.armed ≡ None
+        uncounted-so (inl part) = partly-unarmed fresh (all_wayless mid.servers.seats) partly.start left partly.started.armed part
+        uncounted-so (inr made) = tries-unarmed fresh (all_wayless mid.servers.seats) made.0 (Some made.1) partly.start left partly.started.armed made.2
 
-        made-so : TriesPartly fresh (all_wayless mid.servers.seats) partly.start left ⊎ ((seats : List Seat) × (place : ℕ) × Tries fresh (all_wayless mid.servers.seats) seats (Some place) partly.start left) → (calls : ℕ) × (left.tally.changing ≡ many_more calls partly.start.tally.changing)
-        made-so (inl part) = partly-made fresh (all_wayless mid.servers.seats) partly.start left part
-        made-so (inr made) = tries-made fresh (all_wayless mid.servers.seats) made.0 (Some made.1) partly.start left made.2
+        ends-so : EndsIn new.history.entries past
+        ends-so = subst (λ (entries : List Entry). EndsIn entries past) (sym entries-are) (committed-ends past (caught_hand catching_so hand))
 
-        quiet-so : TriesPartly fresh (all_wayless mid.servers.seats) partly.start left ⊎ ((seats : List Seat) × (place : ℕ) × Tries fresh (all_wayless mid.servers.seats) seats (Some place) partly.start left) → (left.faults ≡ partly.start.faults) × (left.stops ≡ partly.start.stops)
-        quiet-so (inl part) = partly-still fresh (all_wayless mid.servers.seats) partly.start left few-takers part
-        quiet-so (inr made) = tries-quiet fresh (all_wayless mid.servers.seats) made.0 (Some made.1) made.1 partly.start left refl few-takers made.2
+        -- those that keep no deeds do not fail
+        kept-last : (one : ℕ) → AreSome (length (row_calls setup fresh history)) one → length (row_calls setup fresh history) ≡ last_calls (device_by setup (λ number. 0)) new.history.entries
+        kept-last one some = by fresh refl
+          where
+            by : (f : Bool) → fresh ≡ f → length (row_calls setup fresh history) ≡ last_calls (device_by setup (λ number. 0)) new.history.entries
+            by false is =
+                ap (λ (g : Bool). length (row_calls setup g history)) is ∙ row-long setup (λ number. 0) false history
+                ∙ ap (last_calls (device_by setup (λ number. 0))) (sym entries-are)
+            by true is =
+                let none : AreSome (length (row_calls setup true history)) one = subst (λ (g : Bool). AreSome (length (row_calls setup g history)) one) is some in
+                let first = none.0 in
+                let most = none.1 in
+                absurd (omega arith)
 
-      -- **it failed**: there was one alone
+        -- by how many failed
+        lacks-by : (made : List ℕ) (last : ℕ) → AllByRecursion (AreSome (length (row_calls setup fresh history))) made → last ≤ length (row_calls setup fresh history) → suc (length made) ≤ count_seats (takes fresh) owns → Spent (total made + last) (length made) 0 (counters_of held) (counters_of left) → LacksGroup setup state new.history.entries new.servers.armed (counters_of held) (counters_of left)
+        lacks-by [] last some most few spent =
+            lacks-quiet setup state new.history.entries new.servers.armed (total [] + last) (counters_of held) (counters_of left) ends-so spent.changing spent.faults spent.stops
+        lacks-by (one ∷ made) last some most few spent =
+            let kept = kept-last one some.0 in
+            record {
+              happened = λ number. 0;
+              past = past;
+              worked = counters_of held;
+              dealt = dealt-none (device_by setup (λ number. 0)) past (counters_of held);
+              lacked = Taking one made last ends-so (subst (λ (k : ℕ). AllByRecursion (AreSome k) (one ∷ made)) kept some) (subst (λ (k : ℕ). last ≤ k) kept most) spent partly.unarmed (uncounted-so partly.part);
+              downs = less-up (suc (length made)) (count_seats (takes fresh) owns) (count_seats is_standby owns) (count_seats is_up owns) (count_up state) few (few-of fresh owns) (standbys-up owns) (caught-up catching_so state.peers.seats);
+            }
+
+        started-spent : (calls fails : ℕ) → Spent calls fails 0 (counters_of partly.start) (counters_of left) → Spent calls fails 0 (counters_of held) (counters_of left)
+        started-spent calls fails spent = spent-start calls fails 0 held partly.start left partly.started spent
+
+        taking-long : length (takers fresh (bare setup past (caught_hand catching_so hand) owns)) ≡ count_seats (takes fresh) owns
+        taking-long = ap length (takers-named setup past (caught_hand catching_so hand) fresh owns) ∙ named-long (takes fresh) owns
+
+        lacks-so : TriesPartly fresh (all_wayless mid.servers.seats) partly.start left ⊎ ((seats : List Seat) × (place : ℕ) × Tries fresh (all_wayless mid.servers.seats) seats (Some place) partly.start left) → LacksGroup setup state new.history.entries new.servers.armed (counters_of held) (counters_of left)
+        lacks-so (inl part) =
+            let row = partly-row (row_calls setup fresh history) fresh (bare setup past (caught_hand catching_so hand) owns) partly.start left makes-row (subst T seats-are part) in
+            lacks-by row.made row.last row.some row.more.1 (subst (λ (k : ℕ). suc (length row.made) ≤ k) taking-long row.few)
+            (started-spent (total row.made + row.last) (length row.made) row.spent)
+        lacks-so (inr made) =
+            let tried = tried-so setup past (caught_hand catching_so hand) fresh owns (all_wayless mid.servers.seats) made.0 (Some made.1) partly.start left seats-are made.2 in
+            let row = tried.row (row_calls setup fresh history) makes-row in
+            lacks-by row.made (length (row_calls setup fresh history)) row.some (le_refl (length (row_calls setup fresh history))) (subst (λ (k : ℕ). suc k ≤ count_seats (takes fresh) owns) (sym row.long) tried.next.0)
+            (started-spent (total row.made + length (row_calls setup fresh history)) (length row.made) row.spent)
+
+      -- **each of them failed**
+      abbrev fell_all : ℕ → ℕ
+      fell_all = λ number. stops_before (count_seats is_standby owns)
+
       crash-ended : AllFell fresh (fell mid.servers) new.servers prepared.front after held left → LineEnded (group_kit n) group_script setup state (line.Crash state.peers.acting) new before after held left
       crash-ended all =
           let some = some-standby standby in
           let last = fell-last n setup state good (fell mid.servers) new.servers fresh prepared.front after held left seats-are fresh-so acting-is refl all some in
           let calls = fell-calls n setup state good (fell mid.servers) new.servers fresh prepared.front after held left seats-are fresh-so acting-is refl all some in
           let none = fresh-so ∙ stale n setup state good (fell mid.servers) new.servers fresh prepared.front after held left seats-are fresh-so acting-is refl all in
-          let one = few-standbys state.peers.acting state.peers.seats good.steady.good.names good.steady.good.acts good.steady.good.apart in
+          let row = failing-row setup history (stops_before (count_seats is_standby owns)) (count_seats is_standby owns) calls (stops-row (count_seats is_standby owns)) in
           ended-as n setup state old new before after held left good shows
           (λ happened end. EndsLine (group_kit n) group_script (line.Crash state.peers.acting) setup happened state end)
-          (λ happened end. FaultsLine setup (line.Crash state.peers.acting) happened state end.state (counters_of held) (counters_of left)) printed (λ number. 0)
+          (λ happened end. FaultsLine setup (line.Crash state.peers.acting) happened state end.state (counters_of held) (counters_of left)) printed fell_all
           (record {
             active = refl;
             standby = standby;
             none = none;
-            calls = has-calls setup (λ number. 0) history calls;
-            row = omega arith;
+            calls = has-calls setup fell_all history calls;
+            row = subst (λ (k : ℕ). k ≤ suc (failing (device_by setup fell_all) history)) (caught-many catching_so state.peers.seats) row;
             is = refl;
           })
           (record {
             between = last.between;
             before_it = last.before_it;
-            caused = λ never number. refl;
+            caused = before-caused (count_seats is_standby owns) held.faults last.between last.first;
             behind_it = last.behind_it;
             rose = last.rose;
             ended = crash-fell all;
@@ -385,45 +461,29 @@ module _ (n : ℕ) where
           (fell-lines n setup state good (fell mid.servers) new.servers fresh prepared.front after held left seats-are fresh-so acting-is refl all before front-is)
           (λ told. fell-files n setup state good (fell mid.servers) new.servers fresh prepared.front after held left seats-are fresh-so acting-is refl all held.files standby (rest-goes-on setup state held.files told))
         where
-          crash-fell : AllFell fresh (fell mid.servers) new.servers prepared.front after held left → CrashEnded (device_by setup (λ number. 0)) state (ended state).state (counters_of held) (counters_of left)
+          crash-fell : AllFell fresh (fell mid.servers) new.servers prepared.front after held left → CrashEnded (device_by setup fell_all) state (ended state).state (counters_of held) (counters_of left)
           crash-fell all =
               let tried = all-tried n setup state good (fell mid.servers) new.servers fresh prepared.front after held left seats-are fresh-so acting-is refl all in
-              let stale_so = stale n setup state good (fell mid.servers) new.servers fresh prepared.front after held left seats-are fresh-so acting-is refl all in
-              let count = tried.next ∙ ap (λ f. count_seats (takes f) owns) stale_so in
-              let some = some-standby standby in
-              let one = few in
-              let counted = own-row new.servers.seats None all.start left tried in
+              let count = fell-many n setup state good (fell mid.servers) new.servers fresh prepared.front after held left seats-are fresh-so acting-is refl all in
+              let counted = own-row fell_all new.servers.seats None all.start left tried in
               let made = counted.made in
-              let long : length made ≡ count_seats is_standby owns = counted.long ∙ count in
               record {
                 row = made;
-                downs = subst (λ (k : ℕ). count_up state ≡ k + count_up (ended state).state) (sym long) (ended-up state);
-                fell = none-first made (omega arith);
+                downs = subst (λ (k : ℕ). count_up state ≡ k + count_up (ended state).state) (sym counted.long) (fell-up n setup state good (fell mid.servers) new.servers fresh prepared.front after held left seats-are fresh-so acting-is refl all);
+                fell = ap stops_before (sym (counted.long ∙ count)) ∙ before-first made;
                 some = counted.some;
                 spent = spent-as _ _ _ _ _ _ (counters_of held) (counters_of left) (sum-none (total made)) refl refl
                     (spent-start (total made + 0) (length made) 0 held all.start left all.started counted.spent);
               }
 
   -- **by how the takeover came out**
-  abbrev HappenedAs : Setup → Cluster (Group n) → List (List ℕ) → List (List ℕ) → Outcome (State Peers) → Type 0
-  HappenedAs setup new before after outcome = Happened (group_kit n) setup outcome new before after
-
   module _ (server : Server) (old mid new : Cluster (Group n)) (catching fresh : Bool) (base : ℕ) (before lines after : List (List ℕ)) (held left : DiskSeen) (so : leads server old.servers ≡ true) (prepared : Prepares catching fresh base old mid before lines) where
-    pub crash-does : (result : Result (Unit {0}) DiskAnswer) → Falls catching fresh result mid new prepared.front after held left → OnOk result (DoesOn (group_kit n) group_script (line.Crash server) (crashed_by n server) old new before after held left)
+    pub crash-does : (result : Result (Unit {0}) DiskAnswer) → Falls catching fresh result mid new prepared.front after held left → OnOk result (CrashesOn n server old new before after held left)
     crash-does (Err answer) falls = tt
     crash-does (Ok done) falls = λ setup state good shows armed.
         let found = leads-in setup state old server good shows so in
-        let is = found.is (λ number. 0) setup in
-        let took : TookOver fresh (fell mid.servers) new.servers prepared.front after held left = falls.ends in
-        let still = no-fault old mid catching fresh base before lines prepared setup state good shows new after held left (Ok done) falls found.standby took in (
-          subst (HappenedAs setup new before after) (sym is) (over-happened old mid catching fresh base before lines prepared setup state good shows new after held left (Ok done) falls found.standby took),
-          subst (λ (o : Outcome (State Peers)). left.tally.armed ≡ o.state.peers.armed) (sym is) (over-unarmed old mid catching fresh base before lines prepared setup state good shows new after held left (Ok done) falls found.standby took),
-          λ told. subst (λ (o : Outcome (State Peers)). LeavesFiles setup o.state held.files left.files) (sym is) (over-files old mid catching fresh base before lines prepared setup state good shows new after held left (Ok done) falls found.standby took told),
-          calm-uses setup (line.Crash server) state _ held left still
-              (subst (λ (o : Outcome (State Peers)). CountsCrash (same_server server state.peers.acting && any_seat is_standby state.peers.seats) (device_by setup (λ number. 0)) state o.state (counters_of held) (counters_of left)) (sym is)
-              (subst (λ (b : Bool). CountsCrash b (device_by setup (λ number. 0)) state (taken_over (device_by setup (λ number. 0)) state).state (counters_of held) (counters_of left)) (sym (sym (leads-shown setup state old server good shows) ∙ so))
-              (crashed old mid catching fresh base before lines prepared setup state good shows new after held left (Ok done) falls found.standby took))),
-        )
+        let leads_so = sym (leads-shown setup state old server good shows) ∙ so in
+        over-crashes old mid catching fresh base before lines prepared setup state good shows new after held left (Ok done) falls found.standby falls.ends server leads_so (λ f. found.is f setup)
 
     pub crash-off : (result : Result (Unit {0}) DiskAnswer) → Falls catching fresh result mid new prepared.front after held left → IfErr result (λ answer. BreaksOff (group_kit n) group_script answer (line.Crash server) old new before after held left)
     crash-off (Ok done) falls = tt
@@ -435,3 +495,9 @@ module _ (n : ℕ) where
         let C : Server → Type 0 = λ s. LineEnded (group_kit n) group_script setup state (line.Crash s) new before after held left in
         subst C (sym (same-is server state.peers.acting found.same)) (crash-ended old mid catching fresh base before lines prepared setup state good shows new after held left (Err Failed) falls found.standby falls.ends)
     crash-off (Err Stopped) falls = elim falls.ends [ ]
+
+  -- a crash that leaves the disk alone
+  pub calm-crashes : (server : Server) (old new : Cluster (Group n)) (before after : List (List ℕ)) (held left : DiskSeen) → DoesOn (group_kit n) group_script (line.Crash server) (crashed_by n server) old new before after held left → CrashesOn n server old new before after held left
+  calm-crashes server old new before after held left does setup state good shows armed =
+      let done = does setup state good shows armed in
+      record { fails = λ number. 0; is = done.0; count = done.1; files = done.2; uses = done.3 }

@@ -1,5 +1,5 @@
 -- What the disk counted as the deeds of an entry broke off, and standbys took over.
-use Rattle.std.proofs.Common.{◌≡◌, ℕ, zero, suc, ◌+◌, ◌-◌, ◌≤◌, ◌⊎◌, inl, inr, Bool, true, false, Option, None, List, [], ◌∷◌, length, refl, ap, sym, ◌∙◌, subst, arith}
+use Rattle.std.proofs.Common.{◌≡◌, ℕ, zero, suc, ◌+◌, ◌-◌, ◌≤◌, ◌⊎◌, inl, inr, Bool, true, false, Option, List, [], ◌∷◌, length, refl, ap, sym, ◌∙◌, arith}
 use Rattle.std.specs.List.{AllByRecursion}
 use Rattle.ais_values.specs.Causes.{Rose}
 use Rattle.disk_model.specs.Counts as counts
@@ -91,17 +91,17 @@ pub downs-are : {armed : Option ℕ} {calls : List DeviceCall} {held mid : DiskS
 downs-are (stopped count off reached stands tally rose) made = refl
 downs-are (failed count off later rose tally stops) made = refl
 
-is-fallen : {armed : Option ℕ} {calls : List DeviceCall} {held mid : DiskSeen} → (broke : Broke armed calls held mid) → deals.IsFallen (went_by broke)
+pub is-fallen : {armed : Option ℕ} {calls : List DeviceCall} {held mid : DiskSeen} → (broke : Broke armed calls held mid) → deals.IsFallen (went_by broke)
 is-fallen (stopped count off reached stands tally rose) = tt
 is-fallen (failed count off later rose tally stops) = tt
 
 -- What was counted.
 
-done-sum : (calls : ℕ) → calls ≡ 0 + 0 + calls + 0
+pub done-sum : (calls : ℕ) → calls ≡ 0 + 0 + calls + 0
 done-sum calls = omega arith
 
 -- **the deeds of an entry were done**
-pub done-dealt : (setup : Setup) (past : List Entry) (entry : Entry) (held left : DiskSeen) → Spent (length (calls_of_all (deeds_of setup past entry))) 0 0 (counters_of held) (counters_of left) → ArmedIn (length (calls_of_all (deeds_of setup past entry))) deals.Done held.tally.armed left.tally.armed → Dealt (device_by setup (λ number. 0)) past (entry ∷ past) (counters_of held) (counters_of left)
+unfoldable pub done-dealt : (setup : Setup) (past : List Entry) (entry : Entry) (held left : DiskSeen) → Spent (length (calls_of_all (deeds_of setup past entry))) 0 0 (counters_of held) (counters_of left) → ArmedIn (length (calls_of_all (deeds_of setup past entry))) deals.Done held.tally.armed left.tally.armed → Dealt (device_by setup (λ number. 0)) past (entry ∷ past) (counters_of held) (counters_of left)
 done-dealt setup past entry held left spent armed = record {
   deals = record { past = past; entry = entry; went = deals.Done; row = [] } ∷ [];
   are = more entry deals.Done [] none;
@@ -114,29 +114,29 @@ behind-is : (made : List ℕ) → stops_with (length made) ≡ fell_behind made
 behind-is [] = refl
 behind-is (one ∷ made) = refl
 
-before-is : (at : ℕ) (made : List ℕ) → stops_before (length made) ≡ fell_before (deals.Stopped at) made
+pub before-is : (at : ℕ) (made : List ℕ) → stops_before (length made) ≡ fell_before (deals.Stopped at) made
 before-is at [] = refl
 before-is at (one ∷ []) = refl
 before-is at (one ∷ other ∷ made) = refl
 
-failed-is : (at : ℕ) (made : List ℕ) → length made ≡ fell_before (deals.Failed at) made
+pub failed-is : (at : ℕ) (made : List ℕ) → length made ≡ fell_before (deals.Failed at) made
 failed-is at [] = refl
 failed-is at (one ∷ made) = refl
 
-sum-one : (made row calls : ℕ) → made + (row + calls) ≡ made + row + calls + 0
+pub sum-one : (made row calls : ℕ) → made + (row + calls) ≡ made + row + calls + 0
 sum-one made row calls = omega arith
 
-sum-row : (fails row : ℕ) → fails + row ≡ fails + row + 0
+pub sum-row : (fails row : ℕ) → fails + row ≡ fails + row + 0
 sum-row fails row = omega arith
 
 pub sum-none : (n : ℕ) → n + 0 ≡ n
 sum-none n = omega arith
 
-sum-end : (made row : ℕ) → made + (row + 0) ≡ made + row
+pub sum-end : (made row : ℕ) → made + (row + 0) ≡ made + row
 sum-end made row = omega arith
 
 -- **the deeds of an entry failed, and there was no standby**
-pub alone-ending : (setup : Setup) (past : List Entry) (entry : Entry) (count : ℕ) (held left : DiskSeen) → AreSome (length (calls_of_all (deeds_of setup past entry))) (suc count) → Spent (suc count) 1 0 (counters_of held) (counters_of left) → ArmedIn (length (calls_of_all (deeds_of setup past entry))) (deals.Failed (suc count)) held.tally.armed left.tally.armed → Ending (device_by setup (λ number. 0)) past (entry ∷ past) (counters_of held) (counters_of left)
+unfoldable pub alone-ending : (setup : Setup) (past : List Entry) (entry : Entry) (count : ℕ) (held left : DiskSeen) → AreSome (length (calls_of_all (deeds_of setup past entry))) (suc count) → Spent (suc count) 1 0 (counters_of held) (counters_of left) → ArmedIn (length (calls_of_all (deeds_of setup past entry))) (deals.Failed (suc count)) held.tally.armed left.tally.armed → Ending (device_by setup (λ number. 0)) past (entry ∷ past) (counters_of held) (counters_of left)
 alone-ending setup past entry count held left some spent armed = record {
   entry = entry;
   last = refl;
@@ -166,19 +166,19 @@ module _ (setup : Setup) (past : List Entry) (entry : Entry) (armed : Option ℕ
       by (failed count off later rose tally stops) = failed-spent (suc count) held mid tally.1 later rose stops
 
   -- so much was spent by it, and so much behind it
-  behind-spent : (extra fails : ℕ) → Spent extra fails 0 (counters_of start) (counters_of left) → Spent (made_by (went_by broke) + extra) (faults_by (went_by broke) + fails) (stops_by (went_by broke) + 0) (counters_of held) (counters_of left)
+  pub behind-spent : (extra fails : ℕ) → Spent extra fails 0 (counters_of start) (counters_of left) → Spent (made_by (went_by broke) + extra) (faults_by (went_by broke) + fails) (stops_by (went_by broke) + 0) (counters_of held) (counters_of left)
   behind-spent extra fails spent =
       spent-both (made_by (went_by broke)) extra (faults_by (went_by broke)) fails (stops_by (went_by broke)) 0 (counters_of held) (counters_of mid) (counters_of left)
       broke-spent (spent-start extra fails 0 mid start left started spent)
 
-  way-is : (made : List ℕ) → AllByRecursion (AreSome calls) made → deals.IsWent calls (went_by broke) made
+  pub way-is : (made : List ℕ) → AllByRecursion (AreSome calls) made → deals.IsWent calls (went_by broke) made
   way-is made some = by broke
     where
       by : (b : Broke armed (calls_of_all (deeds_of setup past entry)) held mid) → deals.IsWent calls (went_by b) made
       by (stopped count off reached stands tally rose) = (some-made (LeftOn Stopped) (calls_of_all (deeds_of setup past entry)) count held.files mid.files off, some)
       by (failed count off later rose tally stops) = (some-made (LeftOn Failed) (calls_of_all (deeds_of setup past entry)) count held.files mid.files off, some)
 
-  fells-are : (count : ℕ) (made : List ℕ) → length made ≡ count → fells broke count ≡ fell_by (went_by broke) made
+  pub fells-are : (count : ℕ) (made : List ℕ) → length made ≡ count → fells broke count ≡ fell_by (went_by broke) made
   fells-are count made long = by broke
     where
       by : (b : Broke armed (calls_of_all (deeds_of setup past entry)) held mid) → fells b count ≡ fell_by (went_by b) made
@@ -186,7 +186,7 @@ module _ (setup : Setup) (past : List Entry) (entry : Entry) (armed : Option ℕ
       by (failed at off later rose tally stops) = ap suc (sym long)
 
   -- **a standby took over behind those that failed: the entry was worked**
-  pub fell-dealt : (count : ℕ) → Row calls count true start left → ArmedIn calls (went_by broke) held.tally.armed left.tally.armed → Dealt (device_by setup (λ number. fells broke count)) past (entry ∷ past) (counters_of held) (counters_of left)
+  unfoldable pub fell-dealt : (count : ℕ) → Row calls count true start left → ArmedIn calls (went_by broke) held.tally.armed left.tally.armed → Dealt (device_by setup (λ number. fells broke count)) past (entry ∷ past) (counters_of held) (counters_of left)
   fell-dealt count row armed_so =
       let went = went_by broke in
       let made = row.made in
@@ -201,7 +201,7 @@ module _ (setup : Setup) (past : List Entry) (entry : Entry) (armed : Option ℕ
       }
 
   -- **all failed**
-  pub fell-ending : (count : ℕ) → Row calls count false start left → ArmedIn calls (went_by broke) held.tally.armed left.tally.armed → Ending (device_by setup (λ number. ends_with broke count)) past (entry ∷ past) (counters_of held) (counters_of left)
+  unfoldable pub fell-ending : (count : ℕ) → Row calls count false start left → ArmedIn calls (went_by broke) held.tally.armed left.tally.armed → Ending (device_by setup (λ number. ends_with broke count)) past (entry ∷ past) (counters_of held) (counters_of left)
   fell-ending count row armed_so =
       let went = went_by broke in
       let made = row.made in
@@ -224,7 +224,7 @@ module _ (setup : Setup) (past : List Entry) (entry : Entry) (armed : Option ℕ
       ends-are (failed at off later rose tally stops) = sym row.long ∙ failed-is (suc at) row.made
 
   -- **memory was wanting as one took over, or behind it**
-  pub fell-lacked : (entries : List Entry) (server : Bool) (most : ℕ) (row : PartlyRow calls most start left) → entries ≡ entry ∷ past → server ≡ false → ArmedIn calls (went_by broke) held.tally.armed left.tally.armed → LackedAt (device_by setup (λ number. fells broke (length row.made))) entries past server (counters_of held) (counters_of left)
+  unfoldable pub fell-lacked : (entries : List Entry) (server : Bool) (most : ℕ) (row : PartlyRow calls most start left) → entries ≡ entry ∷ past → server ≡ false → ArmedIn calls (went_by broke) held.tally.armed left.tally.armed → LackedAt (device_by setup (λ number. fells broke (length row.made))) entries past server (counters_of held) (counters_of left)
   fell-lacked entries server most row last unarmed armed_so =
       let went = went_by broke in
       let made = row.made in

@@ -93,7 +93,7 @@ module _ (n : ℕ) where
     up-shown =
         let core = state.world.core in
         ap (λ (servers : Group n). list_any (is_up_one server) servers.seats) shows.own
-        ∙ up-is setup core.answered core.hand server state.peers.seats (names-once (names_of state.peers.seats) good.steady.good.names)
+        ∙ up-is setup core.answered core.hand server state.peers.seats (names-once n (names_of state.peers.seats) good.steady.good.names)
 
     served-shown : (not old.servers.armed || list_any (is_standby_other server) old.servers.seats) ≡ is_served state.peers.armed (out_at server state.peers.seats)
     served-shown =
@@ -165,8 +165,8 @@ module _ (n : ℕ) where
   down-good : (setup : Setup) (state : State Peers) (server : Server) → IsGood (group_kit n) setup state → Follows server state → IsGood (group_kit n) setup (other_down server state).state
   down-good setup state server good found =
       let plain = plain_of setup in
-      let keeps = crash-keeps plain (is_plain setup) (device_by setup (λ number. 0)) (SaysUnasked plain) (unasked-borne plain) server (same_server server state.peers.acting) state refl good.steady in
-      let S : Outcome (State Peers) → Type 0 = λ o. IsSteady plain IsGroup o.state in
+      let keeps = crash-keeps n plain (is_plain setup) (device_by setup (λ number. 0)) (SaysUnasked plain) (unasked-borne plain) server (same_server server state.peers.acting) state refl good.steady in
+      let S : Outcome (State Peers) → Type 0 = λ o. IsSteady plain (IsGroup n) o.state in
       record {
         begins = good.begins;
         steady = subst S (found.is setup) keeps.0;
@@ -181,7 +181,7 @@ module _ (n : ℕ) where
       let owns = state.peers.seats in
       let outs = out_at server owns in
       let found = follows-in setup state old server good shows so in
-      let once = names-once (names_of owns) good.steady.good.names in
+      let once = names-once n (names_of owns) good.steady.good.names in
       let agree = good.steady.good.agree in
       let out_agree = all-at (Agree hand) (Agree hand) server (λ stance. Out) (λ stance agrees. tt) (λ stance agrees. agrees) owns agree in
       let dropped : Dropped setup past hand server owns lost news = drops-are setup past hand server owns lost news once agree (subst (λ (seats : List Seat). DropsAt server lost seats news) (ap (λ (servers : Group n). servers.seats) shows.own) drops) in
@@ -282,11 +282,11 @@ module _ (n : ℕ) where
       let there = out-there server owns (both-true (not (same_server server state.peers.acting)) (is_out_at server owns) back).1 in
       let out = there.1 in
       let is : restarted_by n server setup state ≡ record { state = joined server state; told = Stood server role.Joining ∷ [] } = ap (λ b. restart_by server b state) back in
-      let once = names-once (names_of owns) good.steady.good.names in
+      let once = names-once n (names_of owns) good.steady.good.names in
       let joins : Joins setup past hand server owns messages active = joins-by setup past hand server owns messages active there.0 out (subst (λ (node : Node). Begins node active messages) (ap (λ (servers : Group n). servers.active) shows.own) begins) in
       let seats = are ∙ ap (λ (servers : Group n). joined_at server messages servers.seats) shows.own ∙ joined-seats setup past hand server messages owns once out joins.sent in
-      let keeps = restart-keeps plain (is_plain setup) (device_by setup (λ number. 0)) (SaysUnasked plain) (unasked-borne plain) server (can_join server state.peers) state refl good.steady in
-      let S : Outcome (State Peers) → Type 0 = λ o. IsSteady plain IsGroup o.state in
+      let keeps = restart-keeps n plain (is_plain setup) (device_by setup (λ number. 0)) (SaysUnasked plain) (unasked-borne plain) server (can_join server state.peers) state refl good.steady in
+      let S : Outcome (State Peers) → Type 0 = λ o. IsSteady plain (IsGroup n) o.state in
       let new = with_servers old (record old.servers { active = active; seats = news }) in
       let does : Happened (group_kit n) setup (record { state = joined server state; told = Stood server role.Joining ∷ [] }) new before after = (
         record {

@@ -14,7 +14,7 @@ use Rattle.group_cluster.specs.Seats as defined
 use Rattle.group_cluster.specs.Seats.{Stance, Out, Owed, Linking, Standby, Peers, AreNames, Agree, same_server, on_seats, names_of, any_seat, count_seats, is_up}
 use Rattle.group_cluster.specs.Falling.{catches, caught_seats, caught_hand, is_fresh, out_at, rejoined, felled, named, next_of, takes, count_fallen}
 use Rattle.group_cluster.specs.Falling as falling
-use Rattle.group_cluster.proofs.Seating.{AllSeats, any-none, names-caught, names-felled}
+use Rattle.group_cluster.proofs.Seating.{AllSeats, any-none, by-names, names-caught, names-felled}
 use Rattle.group_servers.specs.declared.group.Seat.{Seat}
 use Rattle.group_servers.specs.declared.group.Group.{Group}
 use Rattle.cluster_rounds.specs.Kits.{device_by}
@@ -76,8 +76,8 @@ felled-follow past hand test (suc count) (own ∷ owns) follow = by (test own.st
     by false less more = (follow.0, more)
 
 -- names are distinct
-names-distinct : (names : List Server) → AreNames names → AreDistinct names
-names-distinct names two = subst AreDistinct (sym two) ((refl, tt), (tt, tt))
+names-distinct : (n : ℕ) (names : List Server) → AreNames n names → AreDistinct names
+names-distinct = by-names AreDistinct ((refl, tt), (tt, tt)) ((refl, (refl, tt)), ((refl, tt), (tt, tt)))
 
 -- The one that took over is tied to the others exactly where some is not down.
 
@@ -126,7 +126,7 @@ led-standby setup past hand false (Linking sent) it follows = cc
 
 -- **the servers then**
 
-module _ (n : ℕ) (setup : Setup) (state : State Peers) (names : AreNames (names_of state.peers.seats)) (agree : AllSeats (Agree state.world.core.hand) state.peers.seats) (held left : DiskSeen) where
+module _ (n : ℕ) (setup : Setup) (state : State Peers) (names : AreNames n (names_of state.peers.seats)) (agree : AllSeats (Agree state.world.core.hand) state.peers.seats) (held left : DiskSeen) where
   abbrev past : List Entry
   past = state.world.core.answered
 
@@ -169,7 +169,7 @@ module _ (n : ℕ) (setup : Setup) (state : State Peers) (names : AreNames (name
   fall-up fails fresh seats place is tried tells =
       let count = tried.count in
       let names_are : names_of (felled (takes fresh) count owns) ≡ names_of state.peers.seats = names-felled (takes fresh) count owns ∙ names-caught catching state.peers.seats in
-      let distinct = names-distinct (names_of (felled (takes fresh) count owns)) (subst AreNames (sym names_are) names) in
+      let distinct = names-distinct n (names_of (felled (takes fresh) count owns)) (subst (AreNames n) (sym names_are) names) in
       let U : ℕ → Bool → ℕ = λ k f. count_seats is_up (out_at (next_of state.peers.acting k (named (takes f) owns)) (on_seats rejoined (felled (takes f) k owns))) in
       let told = fall-count fails fresh seats place is tried tells in
       over-sum count (count_up state) (count_seats is_up owns) (count_seats is_up (felled (takes fresh) count owns)) (U count fresh)
@@ -188,7 +188,7 @@ module _ (n : ℕ) (setup : Setup) (state : State Peers) (names : AreNames (name
       let follow = all-follow past state.world.core.hand state.peers.seats catching refl agree in
       let felled_follow = felled-follow past hand test count owns follow in
       let names_are : names_of left_owns ≡ names_of state.peers.seats = names-felled test count owns ∙ names-caught catching state.peers.seats in
-      let distinct = names-distinct (names_of left_owns) (subst AreNames (sym names_are) names) in
+      let distinct = names-distinct n (names_of left_owns) (subst (AreNames n) (sym names_are) names) in
       let here = tried.next.1 state.peers.acting in
       let E : List Seat → Type 0 = λ s. Exchanges place s news (alone down) active before now in
       let led = exchanged-own setup past hand test acting before now place left_owns news active felled_follow here (subst E tried.is changes) in

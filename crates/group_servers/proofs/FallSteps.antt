@@ -1,5 +1,5 @@
 -- What a takeover comes to by the definitions: the servers, the lines, the files and the counts.
-use Rattle.std.proofs.Common.{◌≡◌, ℕ, zero, suc, ◌+◌, ◌≤◌, ◌⊎◌, inl, inr, Bool, true, false, ◌||◌, if◌then◌else◌, is_some, Option, Some, None, option_map, List, [], ◌∷◌, ◌++◌, length, refl, ap, sym, ◌∙◌, subst, arith, le_refl, le_trans, append_assoc}
+use Rattle.std.proofs.Common.{◌≡◌, ℕ, zero, suc, ◌+◌, ◌≤◌, inl, inr, Bool, true, false, ◌||◌, if◌then◌else◌, is_some, Option, Some, None, option_map, List, [], ◌∷◌, ◌++◌, length, refl, ap, sym, ◌∙◌, subst, arith, le_refl, le_trans, append_assoc}
 use Rattle.std.specs.List.{AllByRecursion}
 use Rattle.ais_values.specs.Causes.{Rose}
 use Rattle.disk_model.specs.Counts.{lowered}
@@ -8,7 +8,6 @@ use Rattle.disk_model.specs.Seen.{DiskSeen}
 use Rattle.disk_model.specs.declared.tally.Tally.{Tally}
 use Rattle.wire.specs.declared.message.Message.{Message}
 use Rattle.script_lines.specs.declared.line.Server.{Server}
-use Rattle.script_lines.specs.declared.line.Server.TheVariants.{A, B, C}
 use Rattle.plain_service.specs.Setups.{Setup}
 use Rattle.plain_service.specs.Legal.{IsHistory, CanFollow}
 use Rattle.plain_service.specs.Values.{saved_of}
@@ -28,7 +27,7 @@ use Rattle.group_cluster.specs.Seats as defined
 use Rattle.group_cluster.specs.Seats.{Clear, Sent, Took, Stance, Out, Owed, Linking, Standby, Peers, AreNames, IsApart, any_seat, is_named, count_seats, on_seats, names_of, same_server, is_standby}
 use Rattle.group_cluster.specs.Falling.{catches, caught, caught_seats, caught_hand, caught_lines, is_fresh, is_joining, takes, felled, named, front_of, next_of, count_fallen, all_stood, taken_over}
 use Rattle.group_cluster.specs.Ended.{left_out, ended}
-use Rattle.group_cluster.proofs.Seating.{any-none}
+use Rattle.group_cluster.proofs.Seating.{any-none, same-turned, size-is}
 use Rattle.cluster_rounds.specs.Kits.{device_by}
 use Rattle.cluster_rounds.specs.Worlds.{IsGood, LeavesFiles}
 use Rattle.cluster_rounds.specs.Broken.{LeavesBetween}
@@ -48,9 +47,9 @@ use Rattle.group_servers.specs.Tries.{Tries, TriesPartly}
 use Rattle.group_servers.specs.Tries.TriesPartly.{passes_by, fails_first, lacks}
 use Rattle.group_servers.specs.Tries.Tries.{nobody, passes, fails, takes_over}
 use Rattle.group_servers.specs.GroupCounts.{count_up}
-use Rattle.group_servers.proofs.DeliverSteps.{first-of, rest-of}
 use Rattle.group_servers.proofs.FallLines.{takers-named, takers-wayless, joiners-named, joiners-wayless, over-printed, fallen-printed}
 use Rattle.group_servers.proofs.FallShows.{TellsCount, fall-leads, fall-count, fall-shows, fall-up}
+use Rattle.group_servers.proofs.UpSteps.{ended-up}
 use Rattle.group_servers.proofs.SeatSteps.{at}
 use Rattle.group_servers.proofs.TriedFiles.{all-follow, all-make, fall-leaves}
 use Rattle.group_servers.proofs.TriedSteps.{felled-passes, felled-fails, tried-so}
@@ -235,32 +234,34 @@ count-some test (own ∷ owns) some = by (test own.stance) some (λ rest. count-
     by true is deeper = omega arith
     by false is deeper = let more = deeper is in omega arith
 
--- Of two servers one is active.
+-- Of so many servers one is active.
 
-few-by : (one two : Stance) → (one ≡ Out) ⊎ (two ≡ Out) → (if is_standby one then 1 else 0) + ((if is_standby two then 1 else 0) + 0) ≤ 1
-few-by one two (inl out) = subst (λ (s : Stance). (if is_standby s then 1 else 0) + ((if is_standby two then 1 else 0) + 0) ≤ 1) (sym out) (at-most (is_standby two))
+count-most : (test : Stance → Bool) (owns : List defined.Seat) → count_seats test owns ≤ length owns
+count-most test [] = le_refl 0
+count-most test (own ∷ owns) = by (test own.stance) (count-most test owns)
   where
-    at-most : (b : Bool) → 0 + ((if b then 1 else 0) + 0) ≤ 1
-    at-most true = omega arith
-    at-most false = omega arith
-few-by one two (inr out) = subst (λ (s : Stance). (if is_standby one then 1 else 0) + ((if is_standby s then 1 else 0) + 0) ≤ 1) (sym out) (at-most (is_standby one))
+    by : (b : Bool) → count_seats test owns ≤ length owns → (if b then 1 else 0) + count_seats test owns ≤ suc (length owns)
+    by true most = omega arith
+    by false most = omega arith
+
+standbys-fewer : (acting : Server) (owns : List defined.Seat) → is_named acting (names_of owns) ≡ true → IsApart acting owns → suc (count_seats is_standby owns) ≤ length owns
+standbys-fewer acting [] acts apart = cc
+standbys-fewer acting (own ∷ owns) acts apart =
+    by (same_server acting own.server) refl acts (λ rest. standbys-fewer acting owns rest apart.1)
   where
-    at-most : (b : Bool) → (if b then 1 else 0) + (0 + 0) ≤ 1
-    at-most true = omega arith
-    at-most false = omega arith
+    out : (stance : Stance) → stance ≡ Out → count_seats is_standby owns ≤ length owns → suc ((if is_standby stance then 1 else 0) + count_seats is_standby owns) ≤ suc (length owns)
+    out stance is most = subst (λ (s : Stance). suc ((if is_standby s then 1 else 0) + count_seats is_standby owns) ≤ suc (length owns)) (sym is) (omega arith)
 
-out-of : (acting : Server) (one two : defined.Seat) → one.server ≡ A → two.server ≡ B → is_named acting (one.server ∷ two.server ∷ []) ≡ true → IsApart acting (one ∷ two ∷ []) → (one.stance ≡ Out) ⊎ (two.stance ≡ Out)
-out-of A one two first second acts apart = inl (apart.0 (ap (λ (s : Server). same_server s A) first))
-out-of B one two first second acts apart = inr (apart.1.0 (ap (λ (s : Server). same_server s B) second))
-out-of C one two first second acts apart =
-    let none : true ≡ false = sym acts ∙ (λ i. is_named C (first i ∷ second i ∷ [])) in
-    cc
+    more : (b : Bool) → suc (count_seats is_standby owns) ≤ length owns → suc ((if b then 1 else 0) + count_seats is_standby owns) ≤ suc (length owns)
+    more true fewer = omega arith
+    more false fewer = omega arith
 
-pub few-standbys : (acting : Server) (owns : List defined.Seat) → AreNames (names_of owns) → is_named acting (names_of owns) ≡ true → IsApart acting owns → count_seats is_standby owns ≤ 1
-few-standbys acting [] names acts apart = cc
-few-standbys acting (one ∷ []) names acts apart = cc
-few-standbys acting (one ∷ two ∷ []) names acts apart = few-by one.stance two.stance (out-of acting one two (first-of names) (first-of (rest-of names)) acts apart)
-few-standbys acting (one ∷ two ∷ three ∷ owns) names acts apart = cc
+    by : (b : Bool) → same_server acting own.server ≡ b → (b || is_named acting (names_of owns)) ≡ true → (is_named acting (names_of owns) ≡ true → suc (count_seats is_standby owns) ≤ length owns) → suc ((if is_standby own.stance then 1 else 0) + count_seats is_standby owns) ≤ suc (length owns)
+    by true is acts deeper = out own.stance (apart.0 (same-turned own.server acting ∙ is)) (count-most is_standby owns)
+    by false is acts deeper = more (is_standby own.stance) (deeper acts)
+
+pub few-standbys : (n : ℕ) (acting : Server) (owns : List defined.Seat) → AreNames n (names_of owns) → is_named acting (names_of owns) ≡ true → IsApart acting owns → suc (count_seats is_standby owns) ≤ n
+few-standbys n acting owns names acts apart = subst (λ (k : ℕ). suc (count_seats is_standby owns) ≤ k) (size-is n owns names) (standbys-fewer acting owns acts apart)
 
 pub few-of : (fresh : Bool) (owns : List defined.Seat) → count_seats (takes fresh) owns ≤ count_seats is_standby owns
 few-of false owns = le_refl (count_seats is_standby owns)
@@ -300,7 +301,7 @@ module _ (n : ℕ) (setup : Setup) (state : State Peers) (good : IsGood (group_k
   abbrev pub history : List Entry
   history = committed_by past hand
 
-  pub plain-good : IsGoodGroup setup state
+  pub plain-good : IsGoodGroup n setup state
   plain-good = record { begins = good.begins; steady = good.steady; range = good.range }
 
   module _ (old new : Group n) (fresh : Bool) (before after : List (List ℕ)) (held left : DiskSeen) (seats_are : all_wayless old.seats ≡ bare setup past hand owns) (fresh_is : any_seat is_fresh owns ≡ fresh) (acting_is : old.acting ≡ state.peers.acting) where
@@ -376,7 +377,7 @@ module _ (n : ℕ) (setup : Setup) (state : State Peers) (good : IsGood (group_k
       pub took-files : (counts : ℕ → ℕ) (first : Option Files) → any_seat is_standby state.peers.seats ≡ true → GoesOnFrom setup state first held.files → LeavesFiles setup (taken_over (device_by setup counts) state).state first left.files
       took-files counts first standby from =
           let T : List Seat → Type 0 = λ seats. Tries fresh seats took.tried (Some took.place) took.start left in
-          fall-leaves setup state plain-good standby first held.files from fresh fresh_is took.tried (Some took.place) took.start left took.started.files (subst T seats_are took.tries)
+          fall-leaves n setup state plain-good standby first held.files from fresh fresh_is took.tried (Some took.place) took.start left took.started.files (subst T seats_are took.tries)
 
     -- **All failed.**
 
@@ -397,6 +398,13 @@ module _ (n : ℕ) (setup : Setup) (state : State Peers) (good : IsGood (group_k
               let all : 1 ≤ all-tried.count = subst (λ (k : ℕ). 1 ≤ k) (sym all-tried.next) some in
               let none : 1 ≤ length (row_calls setup true history) = subst (λ (f : Bool). 1 ≤ length (row_calls setup f history)) is (all-tried.calls (row_calls setup fresh history) made all) in
               absurd (omega arith)
+
+      -- each standby is down
+      pub fell-many : all-tried.count ≡ count_seats is_standby owns
+      fell-many = all-tried.next ∙ ap (λ f. count_seats (takes f) owns) stale
+
+      pub fell-up : count_up state ≡ all-tried.count + count_up (ended state).state
+      fell-up = subst (λ k. count_up state ≡ k + count_up (ended state).state) (sym fell-many) (ended-up state)
 
       -- the servers
       fell-seats : new.seats ≡ bare setup history Empty (on_seats left_out owns)
@@ -452,4 +460,4 @@ module _ (n : ℕ) (setup : Setup) (state : State Peers) (good : IsGood (group_k
       pub fell-files : (first : Option Files) → any_seat is_standby state.peers.seats ≡ true → GoesOnFrom setup state first held.files → LeavesBetween setup history first left.files
       fell-files first standby from =
           let T : List Seat → Type 0 = λ seats. Tries fresh seats new.seats None fell.start left in
-          fall-leaves setup state plain-good standby first held.files from fresh fresh_is new.seats None fell.start left fell.started.files (subst T seats_are fell.tries)
+          fall-leaves n setup state plain-good standby first held.files from fresh fresh_is new.seats None fell.start left fell.started.files (subst T seats_are fell.tries)

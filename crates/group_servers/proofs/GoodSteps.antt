@@ -93,12 +93,12 @@ module _ (n : ℕ) where
   -- What hearing a message leads to.
 
   abbrev pub GoesSo : Setup → State Peers → Outcome (State Peers) → Type 0
-  GoesSo setup state outcome = Goes (SaysUnasked (plain_of setup)) (IsSteady (plain_of setup) IsGroup) state outcome
+  GoesSo setup state outcome = Goes (SaysUnasked (plain_of setup)) (IsSteady (plain_of setup) (IsGroup n)) state outcome
 
   pub heard-goes : (setup : Setup) (place : ℕ) (message : Message) (state : State Peers) → IsGood (group_kit n) setup state → Stands message (messages_in state.world.net) → GoesSo setup state (heard_by (group_kit n) place message setup state)
   heard-goes setup place message state good stands =
       let plain = plain_of setup in
-      hear-goes plain (is_plain setup) (servers_at (group_kit n) setup (λ number. 0)) IsGroup ((calm-serves (group_kit n) (group_laws n)) setup) (SaysUnasked plain) ((calm-unasked (group_kit n) (group_laws n)) setup) place message state stands good.steady
+      hear-goes plain (is_plain setup) (servers_at (group_kit n) setup (λ number. 0)) (IsGroup n) ((calm-serves (group_kit n) (group_laws n)) setup) (SaysUnasked plain) ((calm-unasked (group_kit n) (group_laws n)) setup) place message state stands good.steady
 
   -- what the active server answered at that moment
   pub heard-then : (world : Cluster (Group n)) (message : Message) (heard : Heard) (new : Node) → HasState (group_kit n) world → IsHeard message (to_z w64 (of_z w64 world.now)) world.servers.active heard new → IsHeard message world.now world.servers.active heard new

@@ -133,7 +133,7 @@ module _ (n : ℕ) where
 
   module _ (setup : Setup) where
     abbrev Near : State Peers → Outcome (State Peers) → Type 0
-    Near state outcome = Nears (plain_of setup) (SaysUnasked (plain_of setup)) state outcome
+    Near state outcome = Nears n (plain_of setup) (SaysUnasked (plain_of setup)) state outcome
 
     -- what the facts of a step give of the state behind it
     near-step : (state : State Peers) (outcome : Outcome (State Peers)) → IsGood (group_kit n) setup state → Near state outcome → IsTold state outcome → IsStep setup state outcome
@@ -152,7 +152,7 @@ module _ (n : ℕ) where
         }
 
     abbrev LeavesIf : Device → State Peers → Option (Outcome (State Peers)) → Type 0
-    LeavesIf device state found = Leaves (plain_of setup) (is_plain setup) device (SaysUnasked (plain_of setup)) (unasked-borne (plain_of setup)) state found
+    LeavesIf device state found = Leaves n (plain_of setup) (is_plain setup) device (SaysUnasked (plain_of setup)) (unasked-borne (plain_of setup)) state found
 
     abbrev calm : Device
     calm = device_by setup (λ number. 0)
@@ -161,13 +161,13 @@ module _ (n : ℕ) where
     pub mirror-step : (state : State Peers) (seats : List Seat) (roles : List Told) → IsGood (group_kit n) setup state → AreRoles roles → first_turn (mirrored state.world.core.answered) state.peers.seats ≡ Some (seats, roles) → IsStep setup state (looked seats state.world.core.hand roles state)
     mirror-step state seats roles good are is =
         let found : mirror_group state ≡ Some (looked seats state.world.core.hand roles state) = ap (λ turned. step_by turned state) is in
-        let near = subst (LeavesIf calm state) found (mirror-steps (plain_of setup) (is_plain setup) calm (SaysUnasked (plain_of setup)) (unasked-borne (plain_of setup)) state good.steady.good) in
+        let near = subst (LeavesIf calm state) found (mirror-steps n (plain_of setup) (is_plain setup) calm (SaysUnasked (plain_of setup)) (unasked-borne (plain_of setup)) state good.steady.good) in
         near-step state (looked seats state.world.core.hand roles state) good near (looked-told are seats state)
 
     pub ack-step : (state : State Peers) (seats : List Seat) (roles : List Told) → IsGood (group_kit n) setup state → AreRoles roles → first_turn confirmed state.peers.seats ≡ Some (seats, roles) → IsStep setup state (looked seats state.world.core.hand roles state)
     ack-step state seats roles good are is =
         let found : ack_group state ≡ Some (looked seats state.world.core.hand roles state) = ap (λ turned. step_by turned state) is in
-        let near = subst (LeavesIf calm state) found (ack-steps (plain_of setup) (is_plain setup) calm (SaysUnasked (plain_of setup)) (unasked-borne (plain_of setup)) state good.steady.good) in
+        let near = subst (LeavesIf calm state) found (ack-steps n (plain_of setup) (is_plain setup) calm (SaysUnasked (plain_of setup)) (unasked-borne (plain_of setup)) state good.steady.good) in
         near-step state (looked seats state.world.core.hand roles state) good near (looked-told are seats state)
 
     -- The work of the entry in hand.
@@ -188,7 +188,7 @@ module _ (n : ℕ) where
     work-near : (fails : ℕ → ℕ) (state : State Peers) (entry : Entry) → IsGood (group_kit n) setup state → state.world.core.hand ≡ Ready entry → Near state (work_so fails entry (falls_by fails entry state) state)
     work-near fails state entry good ready =
         let device = device_by setup fails in
-        subst (LeavesIf device state) (work-is fails state entry ready) (work-steps (plain_of setup) (is_plain setup) device (SaysUnasked (plain_of setup)) (unasked-borne (plain_of setup)) state good.steady.good)
+        subst (LeavesIf device state) (work-is fails state entry ready) (work-steps n (plain_of setup) (is_plain setup) device (SaysUnasked (plain_of setup)) (unasked-borne (plain_of setup)) state good.steady.good)
 
     work-told : (fails : ℕ → ℕ) (entry : Entry) (fell : Bool) (state : State Peers) → state.world.core.hand ≡ Ready entry → IsTold state (work_so fails entry fell state)
     work-told fails entry true state ready = over-tells (device_by setup fails) state entry state.world.core.hand ready

@@ -48,7 +48,7 @@ use Rattle.cluster_rounds.specs.Worlds.{Shows, IsGood, Happened, heard_by}
 use Rattle.group_servers.specs.declared.group.Seat.{Seat}
 use Rattle.group_servers.specs.declared.group.Group.{Group}
 use Rattle.group_servers.specs.Seats.{goes_to}
-use Rattle.group_servers.specs.Spread.{sent_to, all_sent, first_sent}
+use Rattle.group_servers.specs.Spread.{all_sent, first_sent}
 use Rattle.group_servers.specs.GroupKit.{group_kit}
 use Rattle.group_servers.specs.GroupNodes.{is_linked, active_by, seats_by, servers_of}
 use Rattle.group_servers.proofs.GoodSteps.{answered-history, heard-goes}
@@ -212,7 +212,7 @@ module _ (n : ℕ) where
   accepted-became true number place entry between = append-nil between
   accepted-became false number place entry between = append-nil between
 
-  accepted-happens : (setup : Setup) (state : State Peers) (old : Cluster (Group n)) (active : Node) (seats : List Seat) (net : List (List ℕ)) (history : Pushed) (entry : Entry) (place : ℕ) (before after : List (List ℕ)) (owns : List defined.Seat) (linked : Bool) → any_seat is_linked owns ≡ linked → IsGood (group_kit n) setup (group_at owns Empty state) → Shows (group_kit n) setup (group_at owns Empty state) old → active ≡ record (active_by setup state.world.core.answered Empty owns) { replica = at_work setup state.world.core.answered entry; waits = waits_as linked (Some entry) } → IsToldAll place (told_as linked (suc (length state.world.core.answered)) (accepted_alone entry)) old.net net old.servers.seats seats old.history.entries history.entries before after → IsSteady (plain_of setup) IsGroup (accept_group entry (group_at owns Empty state)).state → CanCome entry state.world.core.answered → Happened (group_kit n) setup (accept_group entry (group_at owns Empty state)) (left_as old active seats net history) before after
+  accepted-happens : (setup : Setup) (state : State Peers) (old : Cluster (Group n)) (active : Node) (seats : List Seat) (net : List (List ℕ)) (history : Pushed) (entry : Entry) (place : ℕ) (before after : List (List ℕ)) (owns : List defined.Seat) (linked : Bool) → any_seat is_linked owns ≡ linked → IsGood (group_kit n) setup (group_at owns Empty state) → Shows (group_kit n) setup (group_at owns Empty state) old → active ≡ record (active_by setup state.world.core.answered Empty owns) { replica = at_work setup state.world.core.answered entry; waits = waits_as linked (Some entry) } → IsToldAll place (told_as linked (suc (length state.world.core.answered)) (accepted_alone entry)) old.net net old.servers.seats seats old.history.entries history.entries before after → IsSteady (plain_of setup) (IsGroup n) (accept_group entry (group_at owns Empty state)).state → CanCome entry state.world.core.answered → Happened (group_kit n) setup (accept_group entry (group_at owns Empty state)) (left_as old active seats net history) before after
   accepted-happens setup state old active seats net history entry place before after owns linked is good shows active_is tells steady can =
       let past = state.world.core.answered in
       let number = suc (length past) in
@@ -245,7 +245,7 @@ module _ (n : ℕ) where
       accepts-range setup hand past entry can range same = subst AreInRange (sym same) (can, range)
 
   -- A reply is posted again.
-  repeated-happens : (setup : Setup) (state : State Peers) (old : Cluster (Group n)) (active : Node) (seats : List Seat) (net : List (List ℕ)) (history : Pushed) (message : Message) (place : ℕ) (before after : List (List ℕ)) → IsGood (group_kit n) setup state → Shows (group_kit n) setup state old → active ≡ old.servers.active → IsToldAll place (repeated message) old.net net old.servers.seats seats old.history.entries history.entries before after → IsSteady (plain_of setup) IsGroup (in_world (post (plain_of setup) message) state).state → Happened (group_kit n) setup (in_world (post (plain_of setup) message) state) (left_as old active seats net history) before after
+  repeated-happens : (setup : Setup) (state : State Peers) (old : Cluster (Group n)) (active : Node) (seats : List Seat) (net : List (List ℕ)) (history : Pushed) (message : Message) (place : ℕ) (before after : List (List ℕ)) → IsGood (group_kit n) setup state → Shows (group_kit n) setup state old → active ≡ old.servers.active → IsToldAll place (repeated message) old.net net old.servers.seats seats old.history.entries history.entries before after → IsSteady (plain_of setup) (IsGroup n) (in_world (post (plain_of setup) message) state).state → Happened (group_kit n) setup (in_world (post (plain_of setup) message) state) (left_as old active seats net history) before after
   repeated-happens setup state old active seats net history message place before after good shows same tells steady =
       let posts = tells.told.posts (plain_of setup) state.world.net (is_plain setup) shows.net in (
         record {
@@ -290,14 +290,14 @@ module _ (n : ℕ) where
         let same = heard_is ∙ ap (told_as linked (suc (length past))) is ∙ told-quiet linked (suc (length past)) [] (ignored why).outcome in
         ignored-happens setup at_once old active seats net history why place told before after good shows (unchanged rest (ap (λ (h : Heard). h.committed) is)) (subst Tells same tells) lines
 
-    accepted-so : (entry : Entry) → plain ≡ accepted_alone entry → node ≡ at_work setup past entry → IsSteady (plain_of setup) IsGroup (accept_group entry at_once).state → CanCome entry past → Leads (accept_group entry at_once)
+    accepted-so : (entry : Entry) → plain ≡ accepted_alone entry → node ≡ at_work setup past entry → IsSteady (plain_of setup) (IsGroup n) (accept_group entry at_once).state → CanCome entry past → Leads (accept_group entry at_once)
     accepted-so entry is work steady can =
         let first = active_by setup past Empty owns in
         let same = heard_is ∙ ap (told_as linked (suc (length past))) is in
         let new : active ≡ record first { replica = at_work setup past entry; waits = waits_as linked (Some entry) } = new_is ∙ (λ i. record first { replica = work i; waits = waits_as linked (is i).committed }) in
         accepted-happens setup state old active seats net history entry place before after owns linked linked_is good shows new (subst Tells same tells) steady can
 
-    request-so : (client number : ℕ) (call : Call) (verdict : Judged) → MessageInRange (Request client number call) → IsRequestHeard setup past client number call state.world.now verdict plain node → IsSteady (plain_of setup) IsGroup (request_as (plain_of setup) servers place client number call verdict at_once).state → Leads (request_as (plain_of setup) servers place client number call verdict at_once)
+    request-so : (client number : ℕ) (call : Call) (verdict : Judged) → MessageInRange (Request client number call) → IsRequestHeard setup past client number call state.world.now verdict plain node → IsSteady (plain_of setup) (IsGroup n) (request_as (plain_of setup) servers place client number call verdict at_once).state → Leads (request_as (plain_of setup) servers place client number call verdict at_once)
     request-so client number call New range is steady =
         accepted-so (Called client number state.world.now call) is.0 is.1 steady (record {
           from = range.0.least;
@@ -309,14 +309,14 @@ module _ (n : ℕ) where
     request-so client number call Repeat range is steady =
         let message = Answer client number is.0 in
         let event : Option Reply → Outcome (State Peers) = λ found. in_world (post_again (plain_of setup) client number found) at_once in
-        let S : Option Reply → Type 0 = λ found. IsSteady (plain_of setup) IsGroup (event found).state in
+        let S : Option Reply → Type 0 = λ found. IsSteady (plain_of setup) (IsGroup n) (event found).state in
         let H : Option Reply → Type 0 = λ found. Leads (event found) in
         let same = heard_is ∙ ap (told_as linked (suc (length past))) is.2 ∙ told-quiet linked (suc (length past)) (message ∷ []) (repeated message).outcome in
         subst H (sym is.1) (repeated-happens setup at_once old active seats net history message place before after good shows (unchanged is.3 (ap (λ (h : Heard). h.committed) is.2)) (subst Tells same tells) (subst S is.1 steady))
     request-so client number call Old range is steady = ignored-so OldMessage (Ignored place OldRequest ∷ []) is.0 is.1 refl
     request-so client number call Ahead range is steady = ignored-so AheadMessage (Ignored place AheadRequest ∷ []) is.0 is.1 refl
 
-    receipt-so : (client key through : ℕ) (new : Bool) → MessageInRange (Receipt client key through) → IsReceiptHeard setup past client key through state.world.now new plain node → IsSteady (plain_of setup) IsGroup (receipt_as servers place client key through new at_once).state → Leads (receipt_as servers place client key through new at_once)
+    receipt-so : (client key through : ℕ) (new : Bool) → MessageInRange (Receipt client key through) → IsReceiptHeard setup past client key through state.world.now new plain node → IsSteady (plain_of setup) (IsGroup n) (receipt_as servers place client key through new at_once).state → Leads (receipt_as servers place client key through new at_once)
     receipt-so client key through true range is steady =
         accepted-so (Receipted client key through state.world.now) is.0 is.1 steady (record {
           from = range.0.least;
@@ -327,7 +327,7 @@ module _ (n : ℕ) where
         })
     receipt-so client key through false range is steady = ignored-so Done (Ignored place DoneReceipt ∷ []) is.0 is.1 refl
 
-    rest-so : (message : Message) → MessageInRange message → IsHeardAtRest setup past state.world.now message plain node → IsSteady (plain_of setup) IsGroup (hear_at_rest (plain_of setup) servers place message at_once).state → Leads (hear_at_rest (plain_of setup) servers place message at_once)
+    rest-so : (message : Message) → MessageInRange message → IsHeardAtRest setup past state.world.now message plain node → IsSteady (plain_of setup) (IsGroup n) (hear_at_rest (plain_of setup) servers place message at_once).state → Leads (hear_at_rest (plain_of setup) servers place message at_once)
     rest-so (Request client number call) range is steady = request-so client number call (judged_call past client number) range is steady
     rest-so (Receipt client key through) range is steady = receipt-so client key through (is_new (plain_of setup) past client key through) range is steady
     rest-so _ range is steady = ignored-so (NotForRole Active) [] is.0 is.1 refl

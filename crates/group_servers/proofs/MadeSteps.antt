@@ -4,24 +4,19 @@ use Rattle.std.specs.Prelude.{Err}
 use Rattle.std.specs.List.{AllByRecursion}
 use Rattle.disk_model.specs.declared.answers.DiskAnswer.{DiskAnswer}
 use Rattle.disk_model.specs.declared.answers.DiskAnswer.TheVariants.{Memory, Failed, Stopped}
-use Rattle.disk_model.specs.Counts.{many_more}
 use Rattle.disk_model.specs.Seen.{DiskSeen}
-use Rattle.disk_model.specs.declared.tally.Tally.{Tally}
-use Rattle.stream_layout.specs.Deeds.{calls_of_all}
 use Rattle.script_lines.specs.declared.line.Server.{Server}
 use Rattle.cluster_events.specs.declared.lines.ServerRole.TheVariants as role
 use Rattle.mirror.specs.declared.state.NodeState.{NodeState as Node}
 use Rattle.mirror.specs.declared.heard.Role.TheVariants.{Active}
-use Rattle.mirror.specs.Pairing.{deeds_kept, taken_over}
+use Rattle.mirror.specs.Pairing.{taken_over}
 use Rattle.group_servers.specs.declared.group.Seat.{Seat}
 use Rattle.group_servers.specs.declared.group.Group.{Group}
 use Rattle.group_servers.specs.Falls.{all_wayless, Exchanges, IsDisarmed, IsFitNode, IsFitSeat, TookOver, AllFell, TakesOver}
 use Rattle.group_servers.specs.Lines.{role_lines, takers, joiners, end_lines, TellsOver, TellsFallen}
 use Rattle.group_servers.specs.Rejoins.{Rejoins, made_of}
-use Rattle.group_servers.specs.GroupUses.{more-more}
 use Rattle.group_servers.specs.Tries.{takes, Tries, TriesPartly}
 use Rattle.group_servers.specs.Tries.Tries.{nobody, passes, fails, takes_over}
-use Rattle.group_servers.specs.Tries.TriesPartly.{passes_by, fails_first, lacks}
 use Rattle.group_servers.proofs.FallLines.{long-both, lines-long, takers-wayless}
 use Rattle.group_servers.proofs.TriedSteps.{takers-not, takers-one}
 
@@ -112,61 +107,6 @@ tries-still fresh seats tried found place start left is (fails {seats = others} 
     let are = ap length (takers-not fresh fallen news (ap (takes fresh) one.0)) in
     absurd (omega arith)
 tries-still fresh seats tried found place start left is (takes_over seat now it one) few = one.3
-
--- so it had, and did not stop, where there was one alone
-pub tries-quiet : (fresh : Bool) (seats tried : List Seat) (found : Option ℕ) (place : ℕ) (start left : DiskSeen) → found ≡ Some place → length (takers fresh seats) ≤ 1 → Tries fresh seats tried found start left → (left.faults ≡ start.faults) × (left.stops ≡ start.stops)
-tries-quiet fresh seats tried found place start left is few nobody = cc
-tries-quiet fresh seats tried found place start left is few (passes {seats = others} {new = news} {found = deeper} seat not rest) =
-    let behind = further-place deeper place is in
-    let was = ap length (takers-not fresh seat others not) in
-    tries-quiet fresh others news deeper behind.less start left behind.is (omega arith) rest
-tries-quiet fresh seats tried found place start left is few (fails {seats = others} {new = news} {found = deeper} {mid = mid} seat fallen it one rest) =
-    let behind = further-place deeper place is in
-    let fewer = tries-fewer fresh others news deeper behind.less mid left behind.is rest in
-    let was = ap length (takers-one fresh seat others it) in
-    absurd (omega arith)
-tries-quiet fresh seats tried found place start left is few (takes_over seat now it one) = (one.3, one.5)
-
--- where memory was wanting one tried
-partly-some : (fresh : Bool) (seats : List Seat) (start left : DiskSeen) → TriesPartly fresh seats start left → 1 ≤ length (takers fresh seats)
-partly-some fresh seats start left (passes_by {seats = others} seat not rest) =
-    let some = partly-some fresh others start left rest in
-    let was = ap length (takers-not fresh seat others not) in
-    omega arith
-partly-some fresh seats start left (fails_first {seats = others} {mid = mid} seat fallen it one rest) =
-    let was = ap length (takers-one fresh seat others it) in
-    omega arith
-partly-some fresh seats start left (lacks {seats = others} seat it one) =
-    let was = ap length (takers-one fresh seat others it) in
-    omega arith
-
-pub partly-still : (fresh : Bool) (seats : List Seat) (start left : DiskSeen) → length (takers fresh seats) ≤ 1 → TriesPartly fresh seats start left → (left.faults ≡ start.faults) × (left.stops ≡ start.stops)
-partly-still fresh seats start left few (passes_by {seats = others} seat not rest) =
-    let was = ap length (takers-not fresh seat others not) in
-    partly-still fresh others start left (omega arith) rest
-partly-still fresh seats start left few (fails_first {seats = others} {mid = mid} seat fallen it one rest) =
-    let some = partly-some fresh others mid left rest in
-    let was = ap length (takers-one fresh seat others it) in
-    absurd (omega arith)
-partly-still fresh seats start left few (lacks seat it one) = (one.2, one.4)
-
--- So many changing calls were made.
-
-pub tries-made : (fresh : Bool) (seats tried : List Seat) (found : Option ℕ) (start left : DiskSeen) → Tries fresh seats tried found start left → (calls : ℕ) × (left.tally.changing ≡ many_more calls start.tally.changing)
-tries-made fresh seats tried found start left nobody = (0, refl)
-tries-made fresh seats tried found start left (passes {seats = others} {new = news} {found = deeper} seat not rest) = tries-made fresh others news deeper start left rest
-tries-made fresh seats tried found start left (fails {seats = others} {new = news} {found = deeper} {mid = mid} seat fallen it one rest) =
-    let behind = tries-made fresh others news deeper mid left rest in
-    (suc one.1 + behind.0, behind.1 ∙ ap (λ (t : Tally). many_more behind.0 t.changing) one.6 ∙ more-more (suc one.1) behind.0 start.tally.changing)
-tries-made fresh seats tried found start left (takes_over seat now it one) =
-    (length (calls_of_all (deeds_kept seat.node.kept)), ap (λ (t : Tally). t.changing) one.4)
-
-pub partly-made : (fresh : Bool) (seats : List Seat) (start left : DiskSeen) → TriesPartly fresh seats start left → (calls : ℕ) × (left.tally.changing ≡ many_more calls start.tally.changing)
-partly-made fresh seats start left (passes_by {seats = others} seat not rest) = partly-made fresh others start left rest
-partly-made fresh seats start left (fails_first {seats = others} {mid = mid} seat fallen it one rest) =
-    let behind = partly-made fresh others mid left rest in
-    (suc one.1 + behind.0, behind.1 ∙ ap (λ (t : Tally). many_more behind.0 t.changing) one.6 ∙ more-more (suc one.1) behind.0 start.tally.changing)
-partly-made fresh seats start left (lacks seat it one) = (suc one.0, ap (λ (t : Tally). t.changing) one.3)
 
 -- So many lines there are.
 

@@ -1,5 +1,5 @@
 -- Servers by their names: each stands once.
-use Rattle.std.proofs.Common.{◌≡◌, Bool, true, false, ◌&&◌, ◌||◌, not, if◌then◌else◌, List, [], ◌∷◌, refl, ap, sym, ◌∙◌, subst}
+use Rattle.std.proofs.Common.{◌≡◌, ℕ, Bool, true, false, ◌&&◌, ◌||◌, not, if◌then◌else◌, List, [], ◌∷◌, refl, ap, sym, ◌∙◌, subst}
 use Rattle.std.specs.List.{AllByRecursion, list_any}
 use Rattle.std.proofs.lemmas.Bool.{not-true}
 use Rattle.script_lines.specs.declared.line.Server.{Server}
@@ -9,7 +9,7 @@ use Rattle.cluster_facts.specs.History.{Hand}
 use Rattle.group_cluster.specs.Seats as defined
 use Rattle.group_cluster.specs.Seats.{Stance, Out, AreNames, any_seat, is_named, is_out_at, is_up, names_of, same_server, stance_of, is_standby}
 use Rattle.group_cluster.specs.Falling.{set_at, out_at}
-use Rattle.group_cluster.proofs.Seating.{same-is}
+use Rattle.group_cluster.proofs.Seating.{by-names, same-is}
 use Rattle.group_servers.specs.declared.group.Seat.{Seat}
 use Rattle.group_servers.specs.GroupNodes.{seat_by, seats_by}
 use Rattle.group_servers.specs.Parted.{is_down_at, is_up_one, is_standby_other}
@@ -25,8 +25,8 @@ abbrev pub Once : List Server → Type 0
 Once [] = Unit {0}
 Once (server ∷ names) = IsAbsent server names × Once names
 
-pub names-once : (names : List Server) → AreNames names → Once names
-names-once names are = subst Once (sym are) ((refl, tt), (tt, tt))
+pub names-once : (n : ℕ) (names : List Server) → AreNames n names → Once names
+names-once = by-names Once ((refl, tt), (tt, tt)) ((refl, (refl, tt)), ((refl, tt), (tt, tt)))
 
 -- behind the one of a name there is none of it
 pub absent-behind : (server : Server) (own : defined.Seat) (owns : List defined.Seat) → same_server server own.server ≡ true → Once (names_of (own ∷ owns)) → IsAbsent server (names_of owns)

@@ -115,8 +115,8 @@ module _ (setup : Setup) (state : State Peers) where
         record {
           begins = good.begins;
           steady = record {
-            sound = over-sound plain (is_plain setup) device (SaysUnasked plain) (unasked-borne plain) state.world past catching hand good.steady.sound;
-            good = over-good plain (is_plain setup) device (SaysUnasked plain) (unasked-borne plain) state hand catching fresh good.steady.good.names good.steady.good.acts;
+            sound = over-sound n plain (is_plain setup) device (SaysUnasked plain) (unasked-borne plain) state.world past catching hand good.steady.sound;
+            good = over-good n plain (is_plain setup) device (SaysUnasked plain) (unasked-borne plain) state hand catching fresh good.steady.good.names good.steady.good.acts;
           };
           range = left-range past hand catching good.range;
           moment = good.moment;
@@ -126,16 +126,16 @@ module _ (setup : Setup) (state : State Peers) where
     over-says counts =
         let plain = plain_of setup in
         let fresh = any_seat is_fresh (caught_seats catching state.peers.seats) in
-        over-goes plain (is_plain setup) (device_by setup counts) (SaysUnasked plain) (unasked-borne plain) state state.world.core.hand catching fresh good.steady.sound
+        over-goes n plain (is_plain setup) (device_by setup counts) (SaysUnasked plain) (unasked-borne plain) state state.world.core.hand catching fresh good.steady.sound
 
     -- **and that of an end**
     pub ended-state : IsGood (group_kit n) setup (ended state).state
     ended-state = record {
       begins = good.begins;
-      steady = (ended-tells (plain_of setup) (is_plain setup) (device_by setup (λ number. 0)) state good.steady).0;
+      steady = (ended-tells n (plain_of setup) (is_plain setup) (device_by setup (λ number. 0)) state good.steady).0;
       range = left-range past state.world.core.hand catching good.range;
       moment = good.moment;
     }
 
     pub ended-says : Says (plain_of setup) state.world (ended state).state.world (ended state).told
-    ended-says = (ended-tells (plain_of setup) (is_plain setup) (device_by setup (λ number. 0)) state good.steady).1
+    ended-says = (ended-tells n (plain_of setup) (is_plain setup) (device_by setup (λ number. 0)) state good.steady).1

@@ -23,7 +23,7 @@ use Rattle.event_text.specs.Texts.{printed}
 use Rattle.group_cluster.specs.Seats as defined
 use Rattle.group_cluster.specs.Seats.{Peers, is_standby}
 use Rattle.group_cluster.specs.Group.{mirrored, confirmed, first_turn, step_by, work_by, work_as, falls}
-use Rattle.group_cluster.specs.Falling.{all_stood, catches, caught_lines, caught_seats, can_join, named, restart_by}
+use Rattle.group_cluster.specs.Falling.{all_stood, catches, caught_lines, caught_seats, can_join, crash, named, restart_by}
 use Rattle.group_cluster.specs.Ended.{ended}
 use Rattle.cluster_clients.specs.Taken.{kept_lines}
 use Rattle.cluster_events.specs.Devices.{Device}
@@ -35,12 +35,13 @@ use Rattle.cluster_rounds.specs.Broken.{BreaksAlone}
 use Rattle.cluster_rounds.specs.Came.{Comes, ComesOff}
 use Rattle.cluster_rounds.proofs.BrokenClients.{same-breaks}
 use Rattle.cluster_rounds.specs.Seen.{counters_of}
-use Rattle.cluster_lines.specs.Playing.{BreaksOff}
+use Rattle.cluster_lines.specs.Playing.{BreaksOff, Plays}
 use Rattle.cluster_lines.specs.Showing.{StandsAs}
 use Rattle.cluster_lines.specs.Answers.{EndsAs}
 use Rattle.cluster_lines.specs.Own.{DoesOn, PlaysLine}
 use Rattle.cluster_lines.proofs.KeepSteps.{LeavesAlone}
-use Rattle.cluster_lines.proofs.LineSteps.{came-stands, plays-came}
+use Rattle.cluster_lines.specs.Shelves.{shelf_of}
+use Rattle.cluster_lines.proofs.LineSteps.{came-stands, own-shelf, plays-came}
 use Rattle.cluster_lines.proofs.LineBroken.{ended-line}
 use Rattle.cluster_lines.proofs.OwnLines.{alone-line, disk-line}
 use Rattle.cluster_events.specs.declared.lines.Standing.{Standing}
@@ -51,7 +52,7 @@ use Rattle.group_servers.specs.GroupScript.{calm-uses, group_follows}
 use Rattle.group_servers.specs.GroupUses.{spent-none, worked-same}
 use Rattle.group_servers.specs.GroupNodes.{active_by}
 use Rattle.group_servers.specs.Standing.{standing_as}
-use Rattle.group_servers.specs.Steps.{EndsWork, acked_next, armed_by, crashed_by, disarmed_by, mirrored_next, refused_by, restarted_by, worked_by}
+use Rattle.group_servers.specs.Steps.{CrashesOn, EndsWork, acked_next, armed_by, disarmed_by, mirrored_next, refused_by, restarted_by, worked_by}
 use Rattle.group_servers.proofs.CountSteps.{crash-counted, off-counted}
 use Rattle.group_servers.proofs.GroupSteps.{done-tells, over-tells}
 use Rattle.group_servers.proofs.StandingSteps.{standing-is}
@@ -114,10 +115,42 @@ module _ (n : ℕ) where
 
   -- A crash.
 
-  pub crash-line : {T : Type 0} (r : Result T DiskAnswer) (next : Line) (server : Server) (old new : Cluster (Group n)) (before after : List (List ℕ)) (held left : DiskSeen) → next ≡ line.Crash server → (HasStateOn (group_kit n)) any_state old held → OnOk r ((DoesOn (group_kit n) group_script) (line.Crash server) (crashed_by n server) old new before after held left) → IfErr r (λ answer. (BreaksOff (group_kit n) group_script) answer (line.Crash server) old new before after held left) → PlaysLine (group_kit n) group_script r next old new before after held left
+  pub crash-line : {T : Type 0} (r : Result T DiskAnswer) (next : Line) (server : Server) (old new : Cluster (Group n)) (before after : List (List ℕ)) (held left : DiskSeen) → next ≡ line.Crash server → (HasStateOn (group_kit n)) any_state old held → OnOk r (CrashesOn n server old new before after held left) → IfErr r (λ answer. (BreaksOff (group_kit n) group_script) answer (line.Crash server) old new before after held left) → PlaysLine (group_kit n) group_script r next old new before after held left
   crash-line r next server old new before after held left is has does off =
       subst (λ (next : Line). PlaysLine (group_kit n) group_script r next old new before after held left) (sym is)
-      ((disk-line (group_kit n) (group_laws n) group_script (group_follows n)) r (line.Crash server) (crashed_by n server) old new before after held left has (λ setup state good shows count. refl) does off (crash-counted n r server old new before after held left has (on_ok_weaker r (λ (d : (DoesOn (group_kit n) group_script) (line.Crash server) (crashed_by n server) old new before after held left). (d has.setup has.state has.good has.shows has.count).3.later) does) off))
+      (record {
+        ok = on_ok_weaker r plays does;
+        stands = on_ok_weaker r stands does;
+        broken = off;
+        counts = crash-counted n r server old new before after held left has (on_ok_weaker r (λ (d : CrashesOn n server old new before after held left). (d has.setup has.state has.good has.shows has.count).uses.later) does) off;
+      })
+    where
+      plays : CrashesOn n server old new before after held left → Plays (group_kit n) group_script (line.Crash server) old new before after held left
+      plays does = λ setup state good shows count tells.
+          let done = does setup state good shows count in
+          record {
+            shelf = shelf_of setup;
+            shelf_is = own-shelf setup held.files;
+            happened = done.fails;
+            outcome = crash (device_by setup done.fails) server state;
+            leads = refl;
+            uses = done.uses;
+            is = done.is;
+            count = done.count;
+            files = done.files tells;
+          }
+
+      stands : CrashesOn n server old new before after held left → (HasStateOn (group_kit n)) any_state new left
+      stands does =
+          let done = does has.setup has.state has.good has.shows has.count in
+          record {
+            setup = has.setup;
+            state = (crash (device_by has.setup done.fails) server has.state).state;
+            good = done.is.1;
+            shows = done.is.0;
+            count = done.count;
+            so = tt;
+          }
 
   -- Arms.
 
@@ -193,7 +226,7 @@ module _ (n : ℕ) where
   work-line r next old new before after loud held left is has comes off =
       subst (λ (next : Line). PlaysLine (group_kit n) group_script r next old new before after held left) (sym is)
       (record {
-        ok = on_ok_weaker r (λ (does : (Comes (group_kit n)) any_state (worked_by n) old new before after loud held left). (plays-came (group_kit n) (group_laws n) group_script (group_follows n)) line.Work (worked_by n) old new before after loud held left (λ setup happened state outcome uses. record { caused = uses.caused; later = uses.later; felled = λ less. (refl, uses.felled less); counts = uses.dealt }) (λ setup fails state good shows count. refl) (λ setup fails state good shows. worked-quiet setup fails state) does) comes;
+        ok = on_ok_weaker r (λ (does : (Comes (group_kit n)) any_state (worked_by n) old new before after loud held left). (plays-came (group_kit n) (group_laws n) group_script (group_follows n)) line.Work (worked_by n) old new before after loud held left (λ setup happened state outcome uses. record { caused = uses.caused; later = uses.later; felled = λ less. (refl, uses.felled less); counts = uses.worked }) (λ setup fails state good shows count. refl) (λ setup fails state good shows. worked-quiet setup fails state) does) comes;
         stands = on_ok_weaker r (λ (does : (Comes (group_kit n)) any_state (worked_by n) old new before after loud held left). (came-stands (group_kit n) (group_laws n)) (worked_by n) old new before after loud held left has does) comes;
         broken = work-broken r old new before after held left off;
         counts = off-counted n r (EndsWork n) old new before after held left has (on_ok_weaker r (λ (d : (Comes (group_kit n)) any_state (worked_by n) old new before after loud held left). (d has.setup has.state has.good has.shows has.count tt).uses.later) comes) off;

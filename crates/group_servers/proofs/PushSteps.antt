@@ -80,10 +80,10 @@ module _ (n : ℕ) where
     range = range-by has.setup has.state has.state.world.core.hand has.so has.good;
   }
 
-  push-steady : (setup : Setup) (state : State Peers) → IsSteady (plain_of setup) IsGroup state → state.world.core.hand ≡ Empty → IsSteady (plain_of setup) IsGroup (pushed (group_kit n) setup state).state
+  push-steady : (setup : Setup) (state : State Peers) → IsSteady (plain_of setup) (IsGroup n) state → state.world.core.hand ≡ Empty → IsSteady (plain_of setup) (IsGroup n) (pushed (group_kit n) setup state).state
   push-steady setup state steady empty =
       let plain = plain_of setup in
-      (push-goes plain (is_plain setup) (calm_servers (group_kit n) setup) IsGroup ((calm-serves (group_kit n) (group_laws n)) setup) (SaysUnasked plain) ((calm-unasked (group_kit n) (group_laws n)) setup) state (record { steady = steady; empty = empty })).holds.steady
+      (push-goes plain (is_plain setup) (calm_servers (group_kit n) setup) (IsGroup n) ((calm-serves (group_kit n) (group_laws n)) setup) (SaysUnasked plain) ((calm-unasked (group_kit n) (group_laws n)) setup) state (record { steady = steady; empty = empty })).holds.steady
 
   pushes-by : (setup : Setup) (state : State Peers) (hand : Hand) (old : Cluster (Group n)) (net : List (List ℕ)) (items : List Message) (before after : List (List ℕ)) → hand ≡ Empty → IsGood (group_kit n) setup (group_at state.peers.seats hand state) → Shows (group_kit n) setup (group_at state.peers.seats hand state) old → items ≡ (plain_of setup).held state.world.core.answered → PostsAll items old.net net before after → Happened (group_kit n) setup (pushed (group_kit n) setup (group_at state.peers.seats hand state)) (record old { net = net }) before after
   pushes-by setup state Empty old net items before after empty good shows is posts =
@@ -94,7 +94,7 @@ module _ (n : ℕ) where
       let done = subst P is posts plain state.world.net (is_plain setup) shows.net in
       let steady = push-steady setup rest good.steady refl in
       let same = each-posted plain (plain.held past) rest in
-      let S : Outcome (State Peers) → Type 0 = λ outcome. IsSteady plain IsGroup outcome.state in
+      let S : Outcome (State Peers) → Type 0 = λ outcome. IsSteady plain (IsGroup n) outcome.state in
       let H : Outcome (State Peers) → Type 0 = λ outcome. Happened (group_kit n) setup outcome (record old { net = net }) before after in
       let other = record rest.world { net = posted_all plain (plain.held past) rest.world.net } in
       let whole : H (record { state = record { world = other; peers = rest.peers }; told = lines_all plain (plain.held past) rest.world.net }) = (
@@ -129,9 +129,9 @@ module _ (n : ℕ) where
       let done = subst P (are setup past (rests-in setup state old shows idle)) posts plain state.world.net (is_plain setup) shows.net in
       let front = take done.0 (plain.held past) in
       let made = All-take (IsMadeItem plain past) done.0 (plain.held past) (held-made plain (is_plain setup) past) in
-      let goes = post_all-goes plain (is_plain setup) (calm_servers (group_kit n) setup) IsGroup ((calm-serves (group_kit n) (group_laws n)) setup) (SaysUnasked plain) ((calm-unasked (group_kit n) (group_laws n)) setup) front state (record { steady = good.steady; empty = idle }) made in
+      let goes = post_all-goes plain (is_plain setup) (calm_servers (group_kit n) setup) (IsGroup n) ((calm-serves (group_kit n) (group_laws n)) setup) (SaysUnasked plain) ((calm-unasked (group_kit n) (group_laws n)) setup) front state (record { steady = good.steady; empty = idle }) made in
       let same = each-posted plain front state in
-      let S : Outcome (State Peers) → Type 0 = λ outcome. IsSteady plain IsGroup outcome.state in
+      let S : Outcome (State Peers) → Type 0 = λ outcome. IsSteady plain (IsGroup n) outcome.state in
       let T : Outcome (State Peers) → Type 0 = λ outcome. SaysUnasked plain state.world outcome.state.world outcome.told in
       let other = record state.world { net = posted_all plain front state.world.net } in
       (whole-broken (group_kit n) (group_laws n)) setup state (record { world = other; peers = state.peers }) (lines_all plain front state.world.net) held held (record old { net = net }) (subst S same goes.holds.steady).sound (subst T same goes.carried) done.1

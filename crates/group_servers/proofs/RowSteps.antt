@@ -15,10 +15,9 @@ use Rattle.mirror.specs.Pairing.{deeds_kept}
 use Rattle.cluster_rounds.specs.Kits.{device_by}
 use Rattle.cluster_rounds.specs.Seen.{counters_of}
 use Rattle.group_servers.specs.declared.group.Seat.{Seat}
-use Rattle.group_servers.specs.Deals.{AreSome, RoseTimes, Spent, total}
+use Rattle.group_servers.specs.Deals.{AreSome, RoseTimes, Spent, last_calls, total}
 use Rattle.group_servers.specs.Falls.{IsDisarmed}
 use Rattle.group_servers.specs.Followed.{row_calls}
-use Rattle.group_servers.specs.GroupCounts.{last_calls}
 use Rattle.group_servers.specs.GroupUses.{rose-once, spent-as, spent-both}
 use Rattle.group_servers.specs.Tried.{Makes}
 use Rattle.group_servers.specs.Lines.{takers}

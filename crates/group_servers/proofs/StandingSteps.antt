@@ -1,32 +1,31 @@
 -- What is shown of the servers, and refusals.
-use Rattle.std.proofs.Common.{◌≡◌, ℕ, ◌+◌, ◌*◌, ◌-◌, ◌^◌, ◌≤◌, Bool, true, false, if◌then◌else◌, Option, Some, None, List, [], ◌∷◌, ◌++◌, length, refl, ap, sym, ◌∙◌, arith}
+use Rattle.std.proofs.Common.{◌≡◌, ℕ, ◌+◌, ◌*◌, ◌-◌, ◌^◌, ◌≤◌, Bool, true, false, nat_le, if◌then◌else◌, Option, Some, None, List, [], ◌∷◌, ◌++◌, length, refl, ap, sym, ◌∙◌, arith}
 use Rattle.std.specs.Prelude.{is_some}
 use Rattle.std.proofs.lemmas.List.{length-map}
 use Rattle.script_lines.specs.declared.line.Line.{Line}
 use Rattle.script_lines.specs.declared.line.Server.{Server}
-use Rattle.script_lines.specs.declared.line.Server.TheVariants.{A, B}
+use Rattle.script_lines.specs.declared.line.Server.TheVariants.{A, B, C}
 use Rattle.script_language.specs.Printing.{line_text}
 use Rattle.plain_service.specs.Setups.{Setup}
 use Rattle.cluster_facts.specs.Types.{Entry}
 use Rattle.cluster_facts.specs.History.{Hand, Empty, Waiting, Applied, Ready}
 use Rattle.cluster_events.specs.declared.lines.Standing.{Standing}
-use Rattle.cluster_events.specs.declared.lines.Roles.TheVariants.{Two}
+use Rattle.cluster_events.specs.declared.lines.Roles.TheVariants.{Two, Three}
 use Rattle.cluster_events.specs.Servers.{State}
 use Rattle.event_text.specs.Texts.{refused_line}
 use Rattle.mirror.specs.Replicas.{number_in_hand}
 use Rattle.mirror.proofs.ReplicaLaws.{count-is}
 use Rattle.lead_server.specs.Roles.{role_shown}
 use Rattle.group_cluster.specs.Seats as defined
-use Rattle.group_cluster.specs.Seats.{Clear, Sent, Took, Stance, Out, Owed, Linking, Standby, Peers, hand_number, link_of, back_of, links, backs, role_of, role_of_active, role_by, same_server, stance_of, standing_group}
+use Rattle.group_cluster.specs.Seats.{Clear, Sent, Took, Stance, Out, Owed, Linking, Standby, Peers, hand_number, link_of, back_of, links, backs, role_of, role_of_active, role_by, roles_of, same_server, stance_of, standing_group}
 use Rattle.group_cluster.proofs.Seating.{few-seats}
 use Rattle.cluster_clients.proofs.PostingSteps.{spelled-length}
 use Rattle.cluster_rounds.specs.declared.cluster.Cluster.{Cluster}
 use Rattle.cluster_rounds.specs.Worlds.{Shows, IsGood, Does}
-use Rattle.group_servers.specs.declared.group.Seat.{Seat}
 use Rattle.group_servers.specs.declared.group.Group.{Group}
 use Rattle.group_servers.specs.GroupKit.{group_kit}
-use Rattle.group_servers.specs.GroupNodes.{active_by, node_by, seats_by, servers_of, to_server, from_server}
-use Rattle.group_servers.specs.Standing.{role_at, role_in, saturated, links_of, backs_of, standing_as}
+use Rattle.group_servers.specs.GroupNodes.{active_by, node_by, seat_by, seats_by, servers_of, to_server, from_server}
+use Rattle.group_servers.specs.Standing.{role_at, role_in, roles_in, saturated, links_of, backs_of, standing_as}
 use Rattle.group_servers.specs.Steps.{refused_by}
 
 -- Roles.
@@ -68,6 +67,14 @@ role-is n setup state server =
     λ i. if same_server server state.peers.acting
     then active-role setup core.answered core.hand owns state.peers.armed i
     else (ap (role_shown armed) (found-role setup core.answered core.hand server owns) ∙ other-role setup core.answered core.hand armed (stance_of server owns)) i
+
+-- of two servers, or of three
+roles-are : (n : ℕ) (setup : Setup) (state : State Peers) → roles_in (servers_of n setup state) ≡ roles_of state.peers
+roles-are n setup state =
+    let long = length-map state.peers.seats (seat_by setup state.world.core.answered state.world.core.hand) in
+    λ i. if nat_le 3 (long i)
+    then Three (role-is n setup state A i) (role-is n setup state B i) (role-is n setup state C i)
+    else Two (role-is n setup state A i) (role-is n setup state B i)
 
 -- the number of the entry in hand
 hand-number : (setup : Setup) (past : List Entry) (hand : Hand) (owns : List defined.Seat) → number_in_hand (active_by setup past hand owns).replica ≡ hand_number (length past) hand
@@ -134,11 +141,11 @@ module _ (n : ℕ) where
   standing-is setup state world good shows =
       let core = state.world.core in
       let owns = state.peers.seats in
-      let few = few-seats owns good.steady.good.names in
+      let few = few-seats n owns good.steady.good.names in
       let links_few = links-few core.answered core.hand owns in
       let backs_few = backs-few core.answered owns in
       let S : Group n → ℕ → Standing = λ servers net. record {
-        roles = Two (role_in A servers) (role_in B servers);
+        roles = roles_in servers;
         net = net;
         link = links_of servers.seats;
         back = backs_of servers.seats;
@@ -147,7 +154,7 @@ module _ (n : ℕ) where
       in
       (λ i. S (shows.own i) (sym (spelled-length state.world.net world.net shows.net) i))
       ∙ (λ i. record {
-        roles = Two (role-is n setup state A i) (role-is n setup state B i);
+        roles = roles-are n setup state i;
         net = length state.world.net;
         link = links-are setup core.answered core.hand owns (omega arith) i;
         back = backs-are setup core.answered core.hand owns (omega arith) i;

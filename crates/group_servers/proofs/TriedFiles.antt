@@ -164,14 +164,14 @@ none-applied (Some files) = refl
 
 -- **Whoever takes over, the files are those of the history that goes on; and where all fail they lie between.**
 
-module _ (setup : Setup) (state : State Peers) (good : IsGoodGroup setup state) (standby : any_seat is_standby state.peers.seats ≡ true) (before held : Option Files) (from : GoesOnFrom setup state before held) where
+module _ (n : ℕ) (setup : Setup) (state : State Peers) (good : IsGoodGroup n setup state) (standby : any_seat is_standby state.peers.seats ≡ true) (before held : Option Files) (from : GoesOnFrom setup state before held) where
   abbrev history : List Entry
   history = left_history state
 
   abbrev pub IsMade : Option Files → Type 0
   IsMade left = left ≡ option_map (λ _. files_of setup history) before
 
-  falls-by : (files : Files) → FilesLeft service_disk (storage_of setup) state.world.core.answered state.world.core.hand files → CanFall (plain_of setup) service_disk (storage_of setup) state files
+  falls-by : (files : Files) → FilesLeft service_disk (storage_of setup) state.world.core.answered state.world.core.hand files → CanFall n (plain_of setup) service_disk (storage_of setup) state files
   falls-by files left = record { steady = good.steady; standby = standby; range = good.range; left = left }
 
   -- those that keep no deeds change nothing
@@ -183,7 +183,7 @@ module _ (setup : Setup) (state : State Peers) (good : IsGoodGroup setup state) 
     where
       made : (b : Option Files) → GoesOnFrom setup state b held → held ≡ option_map (λ _. files_of setup history) b
       made None goes = goes
-      made (Some old) goes = goes.1 ∙ ap Some (stands-fresh setup good.begins state goes.0 (falls-by goes.0 goes.2) fresh)
+      made (Some old) goes = goes.1 ∙ ap Some (stands-fresh n setup good.begins state goes.0 (falls-by goes.0 goes.2) fresh)
 
   -- the others leave files between
   abbrev Lies : Option Files → Type 0
@@ -194,7 +194,7 @@ module _ (setup : Setup) (state : State Peers) (good : IsGoodGroup setup state) 
     where
       lies : (b : Option Files) → GoesOnFrom setup state b held → LeavesBetween setup history b held
       lies None goes = goes
-      lies (Some old) goes = (goes.0, goes.1, lies-between setup good.begins state goes.0 (falls-by goes.0 goes.2))
+      lies (Some old) goes = (goes.0, goes.1, lies-between n setup good.begins state goes.0 (falls-by goes.0 goes.2))
 
   lies-on : (answer : DiskAnswer) (count : ℕ) (mid left : Option Files) → BreaksOff (LeftOn answer) (row_calls setup false history) count mid left → LeavesBetween setup history before mid → LeavesBetween setup history before left
   lies-on answer count mid left broke lies = goes before mid left broke lies
@@ -224,7 +224,7 @@ module _ (setup : Setup) (state : State Peers) (good : IsGoodGroup setup state) 
           let files = goes.0 in
           let between = lies.0 in
           let same : history ≡ [] → between ≡ files = λ empty. let one = lies.1 in let two = none empty in let three = goes.1 in cc in
-          let makes = makes-files setup good.begins state files between (falls-by files goes.2) stale lies.2 same in
+          let makes = makes-files n setup good.begins state files between (falls-by files goes.2) stale lies.2 same in
           let applied : all_applied (row_calls setup false history) between ≡ files_of setup history = ap (λ calls. all_applied calls between) (row-are setup history) ∙ sym (same-applied (last_calls service_disk (storage_of setup) history) between) ∙ makes in
           is ∙ ap (option_map (all_applied (row_calls setup false history))) lies.1 ∙ ap Some applied
 

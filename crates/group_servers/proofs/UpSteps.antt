@@ -1,5 +1,5 @@
 -- How many servers beside the active one are up: as a message is taken, as one takes over, and as all fail.
-use Rattle.std.proofs.Common.{◌≡◌, ℕ, zero, suc, ◌+◌, ◌≤◌, ◌<◌, Bool, true, false, if◌then◌else◌, Option, Some, None, List, [], ◌∷◌, length, refl, ap, sym, ◌∙◌, subst, arith, le_trans}
+use Rattle.std.proofs.Common.{◌≡◌, ℕ, zero, suc, ◌+◌, ◌≤◌, ◌<◌, Bool, true, false, if◌then◌else◌, Option, Some, None, List, [], ◌∷◌, refl, ap, sym, ◌∙◌, subst, arith}
 use Rattle.std.specs.List.{AllByRecursion}
 use Rattle.script_lines.specs.declared.line.Server.{Server}
 use Rattle.cluster_facts.specs.Types.{Entry}
@@ -117,20 +117,21 @@ less-most count most less = omega arith
 pub felled-up : (test : Stance → Bool) → ((stance : Stance) → test stance ≡ true → is_up stance ≡ true) → (count : ℕ) (owns : List Seat) → count ≤ count_seats test owns → count_seats is_up owns ≡ count + count_seats is_up (felled test count owns)
 felled-up test up zero owns most = none-fell (count_seats is_up owns)
 felled-up test up (suc count) [] most = absurd (no-less count most)
-felled-up test up (suc count) (own ∷ owns) most = by (test own.stance) refl
+felled-up test up (suc count) (own ∷ owns) most =
+    by (test own.stance) refl (λ less. felled-up test up count owns less) (λ less. felled-up test up (suc count) owns less)
   where
     M : Bool → Type 0
     M b = suc count ≤ (if b then 1 else 0) + count_seats test owns
 
-    by : (b : Bool) → test own.stance ≡ b → count_seats is_up (own ∷ owns) ≡ suc count + count_seats is_up (felled test (suc count) (own ∷ owns))
-    by true it =
+    by : (b : Bool) → test own.stance ≡ b → (count ≤ count_seats test owns → count_seats is_up owns ≡ count + count_seats is_up (felled test count owns)) → (suc count ≤ count_seats test owns → count_seats is_up owns ≡ suc count + count_seats is_up (felled test (suc count) owns)) → count_seats is_up (own ∷ owns) ≡ suc count + count_seats is_up (felled test (suc count) (own ∷ owns))
+    by true it one all =
         fell-one count (count_seats is_up (own ∷ owns)) (count_seats is_up owns) (count_seats is_up (felled test count owns)) (count_seats is_up (felled test (suc count) (own ∷ owns)))
         (ap (λ b. (if b then 1 else 0) + count_seats is_up owns) (up own.stance it))
-        (felled-up test up count owns (fewer count (count_seats test owns) (subst M it most)))
+        (one (fewer count (count_seats test owns) (subst M it most)))
         (ap (count_seats is_up) (felled-fails test count own owns it))
-    by false it =
+    by false it one all =
         stayed-one count (if is_up own.stance then 1 else 0) (count_seats is_up owns) (count_seats is_up (felled test (suc count) owns)) (count_seats is_up (felled test (suc count) (own ∷ owns)))
-        (felled-up test up (suc count) owns (as-many count (count_seats test owns) (subst M it most)))
+        (all (as-many count (count_seats test owns) (subst M it most)))
         (ap (count_seats is_up) (felled-passes test (suc count) own owns it))
 
 -- One takes over: it is no longer beside the active one, and the others are up as before.

@@ -33,7 +33,6 @@ use Rattle.cluster_rounds.specs.Kits.{device_by}
 use Rattle.cluster_rounds.specs.Worlds.{Shows, IsGood, HasState, any_state}
 use Rattle.cluster_rounds.proofs.BrokenSteps.{broken-between}
 use Rattle.cluster_rounds.specs.Seen.{counters_of}
-use Rattle.group_servers.specs.declared.group.Seat.{Seat}
 use Rattle.group_servers.specs.declared.group.Group.{Group}
 use Rattle.group_servers.specs.Falls.{IsFitSeat, TookOver, AllFell, FellPartly, TakesOver, all_wayless}
 use Rattle.group_servers.specs.GroupCounts.{LacksGroup, count_up}
@@ -170,6 +169,7 @@ module _ (n : ℕ) where
   -- There is no standby.
 
   alone-by : (setup : Setup) (state : State Peers) (hand : Hand) (entry : Entry) (old : Cluster (Group n)) (before after : List (List ℕ)) (count : ℕ) (held left : DiskSeen) → hand ≡ Ready entry → IsGood (group_kit n) setup (group_at state.peers.seats hand state) → Shows (group_kit n) setup (group_at state.peers.seats hand state) old → held.tally.armed ≡ state.peers.armed → any_seat is_standby state.peers.seats ≡ false → left.tally ≡ counts.passed (suc count) held.tally → left.stops ≡ held.stops → BreaksOff (LeftOn Failed) (owed_in old) count held.files left.files → held.faults ≤ left.faults → Rose held.faults left.faults → after ≡ before ++ server_line old.servers.acting role.Down ∷ [] → Ended (group_kit n) setup (group_at state.peers.seats hand state) (EndsWork n Failed setup) (with_servers old (fell old.servers)) before after held left
+  unfolding alone-ending
   alone-by setup state (Ready other) entry old before after count held left is good shows armed alone tally stops broke later rose told =
       let now = group_at state.peers.seats (Ready other) state in
       let past = state.world.core.answered in

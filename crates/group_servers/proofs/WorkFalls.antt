@@ -156,6 +156,7 @@ module _ (n : ℕ) where
 
     -- **a standby took over**
     pub work-over : TookOver fresh (fell old.servers) new before after mid left → Came (group_kit n) setup now (worked_by n setup) (with_servers old new) before after (grew old (with_servers old new)) held left
+    unfolding fell-dealt
     work-over took =
         let row = tried n setup now good (fell old.servers) new fresh before after mid left seats-are fresh-so acting-is refl took in
         let counted = own-row took.tried (Some took.place) took.start left row in
@@ -201,6 +202,7 @@ module _ (n : ℕ) where
 
     -- **memory was wanting, as one took over or behind it**
     pub work-partly : FellPartly fresh old.servers.seats new.armed mid left → (TellsFiles setup now held.files → LeavesBetween setup (committed now.world.core) held.files left.files) × LacksGroup setup now old.history.entries new.armed (counters_of held) (counters_of left)
+    unfolding fell-lacked
     work-partly partly = (
       λ told. files-so told partly.part,
       record {
@@ -218,10 +220,10 @@ module _ (n : ℕ) where
       T seats = TriesPartly fresh seats partly.start left
 
       files-so : TellsFiles setup now held.files → TriesPartly fresh (all_wayless old.servers.seats) partly.start left ⊎ ((seats : List Seat) × (place : ℕ) × Tries fresh (all_wayless old.servers.seats) seats (Some place) partly.start left) → LeavesBetween setup (entry ∷ past) held.files left.files
-      files-so told (inl part) = partly-leaves setup now (plain-good n setup now good) standby held.files mid.files (goes-on told) fresh fresh-so partly.start left partly.started.files (subst T seats-are part)
+      files-so told (inl part) = partly-leaves n setup now (plain-good n setup now good) standby held.files mid.files (goes-on told) fresh fresh-so partly.start left partly.started.files (subst T seats-are part)
       files-so told (inr over) =
           let O : List Seat → Type 0 = λ seats. Tries fresh seats over.0 (Some over.1) partly.start left in
-          let made = fall-leaves setup now (plain-good n setup now good) standby held.files mid.files (goes-on told) fresh fresh-so over.0 (Some over.1) partly.start left partly.started.files (subst O seats-are over.2) in
+          let made = fall-leaves n setup now (plain-good n setup now good) standby held.files mid.files (goes-on told) fresh fresh-so over.0 (Some over.1) partly.start left partly.started.files (subst O seats-are over.2) in
           let behind = over-state setup now n good (λ number. 0) in
           left-between setup (taken_over (device_by setup (λ number. 0)) now).state held.files left.files behind.begins behind.steady.sound behind.range made
 
@@ -246,6 +248,7 @@ module _ (n : ℕ) where
 
     -- **all failed**
     pub work-ended : AllFell fresh (fell old.servers) new before after mid left → Ended (group_kit n) setup now (EndsWork n Failed setup) (with_servers old new) before after held left
+    unfolding fell-ending
     work-ended all =
         let many = count_seats is_standby state.peers.seats in
         let some : 1 ≤ many = count-some is_standby state.peers.seats standby in

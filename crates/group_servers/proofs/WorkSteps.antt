@@ -175,6 +175,7 @@ module _ (n : ℕ) where
       )
 
   works-by : (setup : Setup) (state : State Peers) (hand : Hand) (entry : Entry) (old : Cluster (Group n)) (node active : Node) (seats : List Seat) (net : List (List ℕ)) (heard : Heard) (before after : List (List ℕ)) (held left : DiskSeen) → hand ≡ Ready entry → IsGood (group_kit n) setup (group_at state.peers.seats hand state) → Shows (group_kit n) setup (group_at state.peers.seats hand state) old → held.tally.armed ≡ state.peers.armed → IsWorked old.servers.active heard node → TellsWorked heard old.net net node active old.servers.seats seats before after → left.files ≡ option_map (all_applied (calls_of_all (deeds_in old.servers.active.replica.owed))) held.files → counts.IsShort (length (calls_of_all (deeds_in old.servers.active.replica.owed))) held.tally.armed → left.tally ≡ counts.passed (length (calls_of_all (deeds_in old.servers.active.replica.owed))) held.tally → left.faults ≡ held.faults → left.stops ≡ held.stops → Came (group_kit n) setup (group_at state.peers.seats hand state) (worked_by n setup) (worked_as old active seats net) before after (grew old (worked_as old active seats net)) held left
+  unfolding done-dealt
   works-by setup state (Ready other) entry old node active seats net heard before after held left is good shows count worked told files short tally faults stops =
       let now = group_at state.peers.seats (Ready other) state in
       let past = state.world.core.answered in

@@ -147,10 +147,16 @@ pub record Ending (device : Device) (past now : List Entry) (before after : Coun
   pub spent : Spent (made_by went + total row) (faults_by went + length row) (stops_by went) before after
   pub armed : ArmedIn (device.calls past entry) went before.tally.armed after.tally.armed
 
+-- the calls of the deeds of the last entry
+abbrev pub last_calls : Device → List Entry → ℕ
+last_calls device [] = 0
+last_calls device (entry ∷ past) = device.calls past entry
+
 -- Memory was wanting behind so many calls, none of which failed, and the disk did not stop; or the work of the entry behind this history
 -- fell, and memory was wanting as a standby took over, in the last of so many calls, or behind all of them: it is asked for nowhere else.
 -- Then no server is armed, and no count is left on the disk. The entries that were worked are of the history that was left, and the one
--- that fell is its last.
+-- that fell is its last. Or the active server crashed, these standbys failed in the deeds of the last entry once more, and memory was
+-- wanting as the next one took over.
 pub data LackedAt (device : Device) (entries past : List Entry) (armed : Bool) (before after : Counters) : Type 0 where
   Quiet :
       EndsIn entries past → (calls : ℕ) → after.tally.changing ≡ many_more calls before.tally.changing → after.faults ≡ before.faults → after.stops ≡ before.stops
@@ -160,9 +166,14 @@ pub data LackedAt (device : Device) (entries past : List Entry) (armed : Bool) (
       → IsWent (device.calls past entry) went row → AreSome (device.calls past entry) made
       → Spent ((made_by went + total row) + made) (faults_by went + length row) (stops_by went) before after
       → armed ≡ false → ArmedIn (device.calls past entry) went before.tally.armed after.tally.armed → LackedAt device entries past armed before after
+  Taking :
+      (one : ℕ) (row : List ℕ) (made : ℕ) → EndsIn entries past → AllByRecursion (AreSome (last_calls device entries)) (one ∷ row)
+      → made ≤ last_calls device entries → Spent (total (one ∷ row) + made) (suc (length row)) 0 before after → armed ≡ false
+      → after.tally.armed ≡ None → LackedAt device entries past armed before after
 
 -- how many servers fell then
 abbrev pub downs_at : {device : Device} {entries past : List Entry} {armed : Bool} {before after : Counters}
     → LackedAt device entries past armed before after → ℕ
 downs_at (Quiet ends calls made faults stops) = 0
 downs_at (Falling entry went row made last fallen fell way some spent unarmed counted) = downs_by went row
+downs_at (Taking one row made ends some most spent unarmed uncounted) = suc (suc (length row))

@@ -1,5 +1,5 @@
 -- Words of laws: standbys that have the history that goes on, and the files as they take over.
-use Rattle.std.specs.Prelude.{◌≡◌, Bool, Option, Some, None, if◌then◌else◌, List, []}
+use Rattle.std.specs.Prelude.{◌≡◌, ℕ, Bool, Option, Some, None, if◌then◌else◌, List, []}
 use Rattle.disk_model.specs.Disk.{Files}
 use Rattle.disk_model.specs.DeviceCalls.{DeviceCall}
 use Rattle.stream_layout.specs.Deeds.{calls_of_all}
@@ -32,7 +32,7 @@ GoesOnFrom setup state (Some held) left =
     (files : Files) × (left ≡ Some files) × FilesLeft service_disk (storage_of setup) state.world.core.answered state.world.core.hand files
 
 -- what holds of a state at all times, of it what is asked here
-pub record IsGoodGroup (setup : Setup) (state : State Peers) : Type 0 where
+pub record IsGoodGroup (size : ℕ) (setup : Setup) (state : State Peers) : Type 0 where
   pub begins : CanBegin setup
-  pub steady : IsSteady (plain_of setup) IsGroup state
+  pub steady : IsSteady (plain_of setup) (IsGroup size) state
   pub range : AreInRange (accepted state.world.core)

@@ -19,7 +19,7 @@ use Rattle.group_cluster.specs.Seats.{Peers, any_seat, count_seats, is_standby, 
 use Rattle.group_cluster.specs.Falling.{catches, caught_hand, caught_seats, is_fresh}
 use Rattle.cluster_rounds.specs.Kits.{device_by}
 use Rattle.cluster_lines.specs.Playing.{LooksBy}
-use Rattle.group_servers.specs.Deals.{AreSome, Dealt, Ending, LackedAt, Spent, downs_at, downs_in, fell_behind, of_all, total}
+use Rattle.group_servers.specs.Deals.{AreSome, Dealt, Ending, LackedAt, Spent, downs_at, downs_in, fell_behind, last_calls, of_all, total}
 
 -- whether the line tells that a server is down
 abbrev pub is_down : Told → Bool
@@ -93,10 +93,6 @@ abbrev pub history_behind : State Peers → List Entry
 history_behind state =
     let hand = state.world.core.hand in
     committed_by state.world.core.answered (caught_hand (catches state.peers.seats hand) hand)
-
-abbrev pub last_calls : Device → List Entry → ℕ
-last_calls device [] = 0
-last_calls device (entry ∷ past) = device.calls past entry
 
 abbrev pub kept_calls : Device → State Peers → ℕ
 kept_calls device state =

@@ -43,7 +43,7 @@ abbrev pub group_kit : (n : ℕ) → Kit Peers (Group n)
 group_kit n = record {
   servers = group;
   steps = 13;
-  Good = IsGroup;
+  Good = IsGroup n;
   Own = λ setup past hand peers servers. servers ≡ servers_by n setup past hand peers;
   Seen = DiskSeen;
   see = λ disk beside. disk;

@@ -135,8 +135,9 @@ unasked-told plain =
     }
 
 -- so each step that a round is made of says what happened, and asks nothing
-group-unasked : (plain : Plain) (device : Device) → IsPlain plain → IsCarried plain (group plain device) IsGroup (SaysUnasked plain)
-group-unasked plain device is_plain = group-carries plain is_plain device (SaysUnasked plain) (unasked-borne plain) (unasked-told plain)
+group-unasked : (n : ℕ) (plain : Plain) (device : Device) → IsPlain plain
+    → IsCarried plain (group plain device) (IsGroup n) (SaysUnasked plain)
+group-unasked n plain device is_plain = group-carries n plain is_plain device (SaysUnasked plain) (unasked-borne plain) (unasked-told plain)
 
 -- What an acceptance leaves, and what its lines tell.
 
@@ -194,10 +195,10 @@ rests-up n setup (accepted {now = now} rests entry empty) = up-on sent_to sent-u
 
 pub group_laws : (n : ℕ) → IsKit (group_kit n)
 group_laws n = record {
-  serves = λ plain device is_plain. group-serves plain device is_plain;
-  unasked = λ plain device is_plain. group-unasked plain device is_plain;
+  serves = λ plain device is_plain. group-serves n plain device is_plain;
+  unasked = λ plain device is_plain. group-unasked n plain device is_plain;
   steps = λ plain device. refl;
-  stepped = λ plain device is_plain. group-stepped plain is_plain device (SaysUnasked plain) (unasked-borne plain);
+  stepped = λ plain device is_plain. group-stepped n plain is_plain device (SaysUnasked plain) (unasked-borne plain);
   alike = λ plain one other. refl;
   keeps = λ plain device entry state. refl;
   armed = λ plain device entry state seen is. is;

@@ -16,7 +16,7 @@ use Rattle.cluster_events.specs.Devices.{AgreesIn, Device, spliced}
 use Rattle.cluster_events.proofs.Devices.{agrees-first, agrees-second, caused-both}
 use Rattle.group_cluster.specs.Seats.{Peers, Seat, Stance, count_seats, is_up, on_seats}
 use Rattle.cluster_rounds.specs.Kits.{device_by}
-use Rattle.group_servers.specs.Deals.{AreDeals, ArmedAlong, Deal, Dealt, Falling, IsWay, LackedAt, Quiet, RoseTimes, Spent}
+use Rattle.group_servers.specs.Deals.{AreDeals, ArmedAlong, Deal, Dealt, Falling, IsWay, LackedAt, Quiet, RoseTimes, Spent, Taking}
 use Rattle.group_servers.specs.Deals.{calls_in, downs_at, downs_in, faults_by, faults_in, of_all, stops_in}
 use Rattle.group_servers.specs.Deals.AreDeals.{none, more}
 use Rattle.group_servers.specs.GroupCounts.{EndedIn, FaultsGroup, LacksGroup, TellsDown, UsesGroup, WorkedAll, count_up, is_down}
@@ -107,7 +107,7 @@ all-both : (P : Deal → Type 0) (one two : List Deal) → AllByRecursion P one 
 all-both P one [] first second = first
 all-both P one (deal ∷ two) first second = (second.0, all-both P one two first second.1)
 
-pub dealt-none : (device : Device) (past : List Entry) (seen : Counters) → Dealt device past past seen seen
+abbrev pub dealt-none : (device : Device) (past : List Entry) (seen : Counters) → Dealt device past past seen seen
 dealt-none device past seen = record { deals = []; are = none; ways = tt; spent = spent-none seen; armed = refl }
 
 -- of the same history, though it is said otherwise
@@ -126,6 +126,7 @@ up-same old new same = omega arith
 
 pub worked-same : (device : Device) (old new : State Peers) (seen : Counters) → new.world.core.answered ≡ old.world.core.answered
     → count_up new ≡ count_up old → WorkedAll device old new seen seen
+unfolding dealt-same
 worked-same device old new seen same up = record {
   dealt = dealt-same device old.world.core.answered new.world.core.answered seen same;
   downs = up-same (count_up old) (count_up new) up;
@@ -186,6 +187,7 @@ module _ (setup : Setup) (one two : ℕ → ℕ) (first middle : State Peers) (h
 
   worked-both : (new : State Peers) (left : Counters) → WorkedAll (device_by setup two) middle new between left
       → WorkedAll (device_by setup both) first new held left
+  unfolding dealt-both
   worked-both new left after = record {
     dealt = dealt-both new.world.core.answered left after.dealt;
     downs = downs-both before.dealt.deals after.dealt.deals (count_up first) (count_up middle) (count_up new) before.downs after.downs;
@@ -199,6 +201,7 @@ module _ (setup : Setup) (one two : ℕ → ℕ) (first middle : State Peers) (h
 
   ended-both : (now : State Peers) (left : Counters) → EndedIn (device_by setup two) middle now between left
       → EndedIn (device_by setup both) first now held left
+  unfolding dealt-both
   ended-both now left after =
       let ending = after.ending in
       record {
@@ -226,12 +229,16 @@ module _ (setup : Setup) (one two : ℕ → ℕ) (first middle : State Peers) (h
   lacked-both entries last armed worked left grown (Quiet ends calls made faults stops) = Quiet ends calls made faults stops
   lacked-both entries last armed worked left grown (Falling entry went row made is fallen fell way some spent unarmed counted) =
       Falling entry went row made is fallen (behind-is last grown ∙ fell) way some spent unarmed counted
+  lacked-both entries last armed worked left grown (Taking one row made ends some most spent unarmed uncounted) =
+      Taking one row made ends some most spent unarmed uncounted
 
   lacked-downs : (entries last : List Entry) (armed : Bool) (worked left : Counters) (grown : length behind_it ≤ length last)
       → (lacked : LackedAt (device_by setup two) entries last armed worked left)
       → downs_at (lacked-both entries last armed worked left grown lacked) ≡ downs_at lacked
+  unfolding lacked-both
   lacked-downs entries last armed worked left grown (Quiet ends calls made faults stops) = refl
   lacked-downs entries last armed worked left grown (Falling entry went row made is fallen fell way some spent unarmed counted) = refl
+  lacked-downs entries last armed worked left grown (Taking one row made ends some most spent unarmed uncounted) = refl
 
 -- Lines that tell of a server that is down. Where the count of faults stood nothing is asked.
 
@@ -325,6 +332,7 @@ lacks-quiet setup state entries armed calls held left ends made faults stops = r
 pub lacks-behind : (setup : Setup) (happened : ℕ → ℕ) (old middle : State Peers) (first : List Told) (entries : List Entry) (armed : Bool)
     (held between left : Counters) → UsesGroup setup happened old middle first held between → LacksGroup setup middle entries armed between left
     → LacksGroup setup old entries armed held left
+unfolding dealt-both
 lacks-behind setup happened old middle first entries armed held between left before after =
     let worked = before.worked in
     let grown = deals-grow after.dealt.are in
@@ -344,10 +352,13 @@ lacks-behind setup happened old middle first entries armed held between left bef
 dealt-later : (device : Device) (old new : List Entry) (held left : Counters) → Dealt device old new held left → held.faults ≤ left.faults
 dealt-later device old new held left dealt = times-later (of_all faults_in dealt.deals) held.faults left.faults dealt.spent.faults
 
-lacked-later : (device : Device) (entries past : List Entry) (armed : Bool) (held left : Counters) → LackedAt device entries past armed held left → held.faults ≤ left.faults
-lacked-later device entries past armed held left (Quiet ends calls made faults stops) = stood-later held left faults
-lacked-later device entries past armed held left (Falling entry went row made is fallen fell way some spent unarmed counted) =
+lacked-later : (device : Device) (entries last : List Entry) (armed : Bool) (held left : Counters) → LackedAt device entries last armed held left
+    → held.faults ≤ left.faults
+lacked-later device entries last armed held left (Quiet ends calls made faults stops) = stood-later held left faults
+lacked-later device entries last armed held left (Falling entry went row made is fallen fell way some spent unarmed counted) =
     times-later (faults_by went + length row) held.faults left.faults spent.faults
+lacked-later device entries last armed held left (Taking one row made ends some most spent unarmed uncounted) =
+    times-later (suc (length row)) held.faults left.faults spent.faults
 
 pub lacks-later : (setup : Setup) (state : State Peers) (entries : List Entry) (armed : Bool) (held left : Counters)
     → LacksGroup setup state entries armed held left → held.faults ≤ left.faults

@@ -1,12 +1,13 @@
 -- Words of public clauses: what is shown of servers.
-use Rattle.std.specs.Prelude.{ℕ, ◌+◌, ◌-◌, ◌^◌, min, if◌then◌else◌, List, [], ◌∷◌, length}
+use Rattle.std.specs.Prelude.{ℕ, ◌+◌, ◌-◌, ◌^◌, min, nat_le, if◌then◌else◌, List, [], ◌∷◌, length}
 use Rattle.script_lines.specs.declared.line.Server.{Server}
 use Rattle.script_lines.specs.declared.line.Server.TheVariants as server
 use Rattle.mirror.specs.declared.heard.Role.{Role}
 use Rattle.mirror.specs.declared.heard.Role.TheVariants as role
 use Rattle.mirror.specs.Replicas.{number_in_hand}
 use Rattle.cluster_events.specs.declared.lines.ServerRole.{ServerRole}
-use Rattle.cluster_events.specs.declared.lines.Roles.TheVariants.{Two}
+use Rattle.cluster_events.specs.declared.lines.Roles.{Roles}
+use Rattle.cluster_events.specs.declared.lines.Roles.TheVariants.{Two, Three}
 use Rattle.cluster_events.specs.declared.lines.Standing.{Standing}
 use Rattle.lead_server.specs.Roles.{role_shown}
 use Rattle.group_cluster.specs.Seats.{same_server}
@@ -24,6 +25,12 @@ role_in one servers =
     if same_server one servers.acting then role_shown servers.armed servers.active.replica.role
     else role_shown servers.armed (role_at one servers.seats)
 
+-- the roles of two servers, or of three
+abbrev pub roles_in : {n : ℕ} → Group n → Roles
+roles_in servers =
+    if nat_le 3 (length servers.seats) then Three (role_in server.A servers) (role_in server.B servers) (role_in server.C servers)
+    else Two (role_in server.A servers) (role_in server.B servers)
+
 -- a sum that stops at its type's end
 abbrev pub saturated : ℕ → ℕ → ℕ
 saturated one other = min (one + other) (2 ^ 64 - 1)
@@ -40,7 +47,7 @@ backs_of (seat ∷ seats) = saturated (length seat.back) (backs_of seats)
 -- the servers' roles and the lengths of the lists of messages
 abbrev pub standing_as : {n : ℕ} → Cluster (Group n) → Standing
 standing_as world = record {
-  roles = Two (role_in server.A world.servers) (role_in server.B world.servers);
+  roles = roles_in world.servers;
   net = length world.net;
   link = links_of world.servers.seats;
   back = backs_of world.servers.seats;

@@ -1,6 +1,8 @@
 -- Words of public clauses: what steps of the servers and lines on them come to.
 use Rattle.std.specs.Prelude.{◌≡◌, ℕ, Bool, true, false, nat_lt, Option, Some, None, List, length}
+use Rattle.disk_model.specs.Seen.{DiskSeen}
 use Rattle.script_lines.specs.declared.line.Line.{Line}
+use Rattle.script_lines.specs.declared.line.Line.TheVariants as line
 use Rattle.script_lines.specs.declared.line.Server.{Server}
 use Rattle.disk_model.specs.declared.answers.DiskAnswer.TheVariants.{Failed}
 use Rattle.plain_service.specs.Setups.{Setup}
@@ -13,8 +15,10 @@ use Rattle.group_cluster.specs.Ended.{EndsGroup}
 use Rattle.cluster_rounds.specs.declared.cluster.Cluster.{Cluster}
 use Rattle.cluster_rounds.specs.Kits.{calm_servers, device_by, servers_at}
 use Rattle.cluster_rounds.specs.Rounds.{EventOver, EndOver}
-use Rattle.cluster_rounds.specs.Worlds.{Event, Happened, IsGood, Shows}
+use Rattle.cluster_rounds.specs.Seen.{TellsFiles, counters_of}
+use Rattle.cluster_rounds.specs.Worlds.{Event, Happened, IsGood, LeavesFiles, Shows}
 use Rattle.group_servers.specs.declared.group.Group.{Group}
+use Rattle.group_servers.specs.GroupCounts.{UsesLine}
 use Rattle.group_servers.specs.GroupKit.{group_kit}
 
 -- the history grew
@@ -60,9 +64,28 @@ module _ (n : ℕ) where
 
   -- Lines over a disk.
 
-  -- where no work fails: of two servers a takeover that is done had no fault
+  -- a crash that no standby fails behind
   abbrev pub crashed_by : Server → Event (group_kit n)
   crashed_by server setup state = crash (device_by setup (λ number. 0)) server state
+
+  -- a crash, by the works that failed: standbys may have failed as they took over, and the server that crashed is the first of them
+  pub record Crashes (server : Server) (setup : Setup) (state : State Peers) (new : Cluster (Group n)) (before after : List (List ℕ))
+      (held left : DiskSeen) : Type 0 where
+    pub fails : ℕ → ℕ
+    pub is : Happened (group_kit n) setup (crash (device_by setup fails) server state) new before after
+    pub count : left.tally.armed ≡ (crash (device_by setup fails) server state).state.peers.armed
+    pub files :
+        TellsFiles setup state held.files → LeavesFiles setup (crash (device_by setup fails) server state).state held.files left.files
+    pub uses :
+        UsesLine setup (line.Crash server) fails state (crash (device_by setup fails) server state) held.files (counters_of held)
+        (counters_of left)
+
+  -- so it went over each state that tells of the disk's armed count
+  abbrev pub CrashesOn :
+      Server → Cluster (Group n) → Cluster (Group n) → List (List ℕ) → List (List ℕ) → DiskSeen → DiskSeen → Type 0
+  CrashesOn server old new before after held left =
+      (setup : Setup) (state : State Peers) → IsGood (group_kit n) setup state → Shows (group_kit n) setup state old
+      → held.tally.armed ≡ state.peers.armed → Crashes server setup state new before after held left
 
   abbrev pub armed_by : Server → ℕ → Event (group_kit n)
   armed_by server count setup state = arm server count state

@@ -5,7 +5,6 @@ ghost use Rattle.script_lines.specs.declared.line.Line.TheVariants.{Crash};
 ghost use Rattle.mirror.specs.Replicas.{down};
 ghost use Rattle.mirror.specs.Pairing.{alone};
 ghost use Rattle.cluster_rounds.specs.Worlds.{HasStateOn, any_state};
-ghost use Rattle.cluster_lines.specs.Own.{DoesOn};
 ghost use Rattle.cluster_lines.specs.Playing.{BreaksOff};
 ghost use Rattle.group_servers.specs.Caught.{CanCatch};
 ghost use Rattle.group_servers.specs.Falls.{IsFitSeat};
@@ -13,7 +12,7 @@ ghost use Rattle.group_servers.specs.Lines.{takers, joiners, end_lines};
 ghost use Rattle.group_servers.specs.Parted.{leads, follows};
 ghost use Rattle.group_servers.specs.Prepared.{Prepares, Falls};
 ghost use Rattle.group_servers.specs.GroupKit.{group_kit, group_script};
-ghost use Rattle.group_servers.specs.Steps.{crashed_by, IsUntold};
+ghost use Rattle.group_servers.specs.Steps.{CrashesOn, IsUntold};
 
 use crate::Group;
 use crate::catching::{catch_if, push_caught, put_caught, take_caught};
@@ -108,8 +107,8 @@ fn crash_active<const N: usize, D: SharedDisk>(
 ) -> Result<(), DiskAnswer>
     requires state { HasStateOn (group_kit N) any_state world.old (D.seen disk.old) }
     requires leads { leads server world.old.servers ≡ true }
-    ensures ok { OnOk result (DoesOn (group_kit N) group_script (Crash server) (crashed_by N server)
-        world.old world.new lines.old.items lines.new.items (D.seen disk.old) (D.seen disk.new)) }
+    ensures ok { OnOk result (CrashesOn N server world.old world.new lines.old.items lines.new.items
+        (D.seen disk.old) (D.seen disk.new)) }
     ensures err { IfErr result (λ answer. BreaksOff (group_kit N) group_script answer (Crash server)
         world.old world.new lines.old.items lines.new.items (D.seen disk.old) (D.seen disk.new)) }
 {
@@ -135,8 +134,8 @@ pub fn crash<const N: usize, D: SharedDisk>(
 ) -> Result<(), DiskAnswer>
     requires state { HasStateOn (group_kit N) any_state world.old (D.seen disk.old) }
     requires line { line.now ≡ Crash server }
-    ensures ok { OnOk result (DoesOn (group_kit N) group_script (Crash server) (crashed_by N server)
-        world.old world.new lines.old.items lines.new.items (D.seen disk.old) (D.seen disk.new)) }
+    ensures ok { OnOk result (CrashesOn N server world.old world.new lines.old.items lines.new.items
+        (D.seen disk.old) (D.seen disk.new)) }
     ensures err { IfErr result (λ answer. BreaksOff (group_kit N) group_script answer (Crash server)
         world.old world.new lines.old.items lines.new.items (D.seen disk.old) (D.seen disk.new)) }
 {

@@ -1,9 +1,9 @@
 //! The servers' roles and names, and refusals.
-ghost use Rattle.std.specs.Prelude.{◌≡◌, OnOk, OnErr};
+ghost use Rattle.std.specs.Prelude.{◌≡◌, nat_le, length, OnOk, OnErr};
 ghost use Rattle.cluster_rounds.specs.Worlds.{Does};
 ghost use Rattle.group_servers.specs.GroupKit.{group_kit};
 ghost use Rattle.group_servers.specs.Steps.{refused_by};
-ghost use Rattle.group_servers.specs.Standing.{role_at, role_in, links_of, backs_of, standing_as};
+ghost use Rattle.group_servers.specs.Standing.{role_at, role_in, roles_in, links_of, backs_of, standing_as};
 
 use crate::seats::same_server;
 use crate::{Group, Seat};
@@ -42,6 +42,26 @@ fn role_of<const N: usize>(servers: &Group<N>, server: Server) -> ServerRole
     role_shown(servers.armed, role_at(&servers.seats, server))
 }
 
+/// Whether there is a third server.
+fn has_third(seats: &[Seat]) -> bool
+    ensures { result ≡ nat_le 3 (length seats.now) }
+{
+    seats.len() >= 3
+}
+
+/// The roles of all servers.
+fn roles_of<const N: usize>(servers: &Group<N>) -> Roles
+    ensures { result ≡ roles_in servers.now }
+{
+    let a = role_of(servers, Server::A);
+    let b = role_of(servers, Server::B);
+    if has_third(&servers.seats) {
+        let c = role_of(servers, Server::C);
+        return Roles::Three { a, b, c };
+    }
+    Roles::Two { a, b }
+}
+
 /// How many messages are on the way to the servers; no more than a number can tell.
 fn links_of(seats: &[Seat]) -> u64
     ensures { result ≡ links_of seats.now }
@@ -67,10 +87,7 @@ pub fn standing_of<const N: usize>(world: &Cluster<Group<N>>) -> Standing
     ensures { result ≡ standing_as world.entry.now }
 {
     Standing {
-        roles: Roles::Two {
-            a: role_of(&world.servers, Server::A),
-            b: role_of(&world.servers, Server::B),
-        },
+        roles: roles_of(&world.servers),
         net: world.net.len(),
         link: links_of(&world.servers.seats),
         back: backs_of(&world.servers.seats),

@@ -107,7 +107,7 @@ crash-one device world C A of_two stance armed = inl refl
 crash-one device world C B of_two stance armed = inl refl
 crash-one device world server C of_two stance armed = elim of_two [ ]
 
-crashes-one : (plain : Plain) (shelf : Shelf) (device : Device) (next : Line) (state : State Peers) (outcome : Outcome (State Peers)) → IsGroup state → GroupHappens plain shelf device next state outcome → CrashesOne next state.peers outcome.state.peers
+crashes-one : (plain : Plain) (shelf : Shelf) (device : Device) (next : Line) (state : State Peers) (outcome : Outcome (State Peers)) → IsGroup 2 state → GroupHappens plain shelf device next state outcome → CrashesOne next state.peers outcome.state.peers
 crashes-one plain shelf device (line.Crash server) state outcome good happens =
     let two = two-good state good in
     let with_seats : List Seat → Peers = λ seats. record state.peers { seats = seats } in
@@ -119,7 +119,7 @@ crashes-one plain shelf device _ state outcome good happens = tt
 pub falls-by-cause : (held : Option Files) → OfAllLines held FallsByCause
 falls-by-cause held =
     each-played world_game world_plays held (λ setup. FallsByCause) (λ setup places first lines state told before next outcome after run done. (
-      λ calm short stood. servers-stay-up (plain_of setup) (is_plain setup) done.shelf (device_in done) (done.step.caused stood) next state outcome (played-says world_game world_plays setup places held first run).0 calm done.step.happens short,
+      λ calm short stood. servers-stay-up 2 (plain_of setup) (is_plain setup) done.shelf (device_in done) (done.step.caused stood) next state outcome (played-says world_game world_plays setup places held first run).0 calm done.step.happens short,
       crashes-one (plain_of setup) done.shelf (device_in done) next state outcome (played-says world_game world_plays setup places held first run).0.good done.step.happens,
     ))
 

@@ -11,6 +11,7 @@ use Rattle.group_servers.proofs.GoodSteps.{is-active}
 use Rattle.group_servers.specs.GroupScript.{group_follows}
 use Rattle.group_servers.specs.Steps.{refused_by}
 use Rattle.group_servers.proofs.HearBroken.{same-untold}
+use Rattle.group_servers.proofs.CrashSteps.{calm-crashes}
 use Rattle.group_servers.proofs.FailSteps.{crash-on, crash-refuses}
 use Rattle.group_servers.proofs.crashing.crash.Goals as goal
 
@@ -28,7 +29,7 @@ returns-then-follows-clause-ok g c =
     let old = c.args.world.now in
     let new = c.crash_other.new.world in
     ends-ok c.crash_other.result c.as_answer.result c.as_answer.ensures
-    (λ does. crash-on g.row.N c.args.server old new c.args.lines.now.items c.crash_other.new.lines.items (g.D.SharedDisk.seen c.args.disk.now) (sym c.if-follows.ensures) does)
+    (λ does. calm-crashes g.row.N c.args.server old new c.args.lines.now.items c.crash_other.new.lines.items (g.D.SharedDisk.seen c.args.disk.now) (g.D.SharedDisk.seen c.args.disk.now) (crash-on g.row.N c.args.server old new c.args.lines.now.items c.crash_other.new.lines.items (g.D.SharedDisk.seen c.args.disk.now) (sym c.if-follows.ensures) does))
     c.crash_other.ensures.ok
 
 pub returns-then-follows-clause-err : goal.returns-then-follows-clause-err
@@ -41,7 +42,7 @@ returns-clause-ok g c =
     let before = c.args.lines.now.items in
     let after = c.refused.new.lines.items in
     ends-ok c.refused.result c.as_answer-2.result c.as_answer-2.ensures
-    (λ refuses. crash-refuses g.row.N c.args.server old before after (g.D.SharedDisk.seen c.args.disk.now) (sym c.if-leads.ensures) (sym c.if-follows.ensures) (subst (λ line. Does (group_kit g.row.N) (refused_by g.row.N line) old old before after) c.requires.line refuses))
+    (λ refuses. calm-crashes g.row.N c.args.server old old before after (g.D.SharedDisk.seen c.args.disk.now) (g.D.SharedDisk.seen c.args.disk.now) (crash-refuses g.row.N c.args.server old before after (g.D.SharedDisk.seen c.args.disk.now) (sym c.if-leads.ensures) (sym c.if-follows.ensures) (subst (λ line. Does (group_kit g.row.N) (refused_by g.row.N line) old old before after) c.requires.line refuses)))
     c.refused.ensures.ok
 
 pub returns-clause-err : goal.returns-clause-err
