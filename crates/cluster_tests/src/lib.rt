@@ -4,6 +4,8 @@
 #[cfg(test)]
 mod exchange_tests;
 #[cfg(test)]
+mod gate_tests;
+#[cfg(test)]
 mod lines_tests;
 #[cfg(test)]
 mod mirror_tests;

@@ -9,7 +9,7 @@ ghost use Rattle.cluster_tests.specs.Starting.{cluster_of, seat_of};
 
 use crate::mirror_tests::{START, default_wells, new_disk};
 use ais_values::Seq;
-use callback_dispatch::OpenGate;
+use callback_dispatch::{Gate, OpenGate};
 use calls::History;
 use cluster_lines::play;
 use cluster_rounds::Cluster;
@@ -60,7 +60,7 @@ fn cluster_of(alloc: Global, active: Node, start: i64, callbacks: u32) -> Cluste
 
 /// The same over a disk that is not armed, where `a` is active with the service of a history without entries, and the deeds of its
 /// start.
-fn begin<D: SharedDisk>(
+pub(crate) fn begin<D: SharedDisk>(
     alloc: Global,
     start: i64,
     queue: u32,
@@ -81,13 +81,14 @@ fn begin<D: SharedDisk>(
     }
 }
 
-/// Plays a line, which prints so many lines.
-fn plays<R: Abort + Threads + Wait + Sync, D: SharedDisk>(
+/// Plays a line, whose workers pass a gate, and which prints so many lines.
+pub(crate) fn plays_by<R: Abort + Threads + Wait + Sync, D: SharedDisk, G: Gate>(
     rt: &R,
     alloc: Global,
     cluster: &mut Cluster<Group<2>>,
     disk: &mut D,
     line: Line,
+    gate: &G,
     count: usize,
 )
     requires state { HasStateOn (group_kit 2) any_state cluster.old (D.seen disk.old) }
@@ -105,12 +106,29 @@ fn plays<R: Abort + Threads + Wait + Sync, D: SharedDisk>(
         &line,
         disk,
         &mut beside,
-        &OpenGate,
+        gate,
     );
     drop(line);
     done.expect(rt, "a disk that serves");
     assert_eq!(rt; lines.as_slice().len(), count);
     drop(lines);
+}
+
+/// Plays a line, which prints so many lines.
+pub(crate) fn plays<R: Abort + Threads + Wait + Sync, D: SharedDisk>(
+    rt: &R,
+    alloc: Global,
+    cluster: &mut Cluster<Group<2>>,
+    disk: &mut D,
+    line: Line,
+    count: usize,
+)
+    requires state { HasStateOn (group_kit 2) any_state cluster.old (D.seen disk.old) }
+    requires range { IsInRange line }
+    requires can { CanPlay group_script cluster.old.now line }
+    ensures { HasStateOn (group_kit 2) any_state cluster.new (D.seen disk.new) }
+{
+    plays_by(rt, alloc, cluster, disk, line, &OpenGate, count);
 }
 
 /// The server that was down comes back and joins, and takes over.
