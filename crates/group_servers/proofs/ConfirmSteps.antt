@@ -19,7 +19,7 @@ use Rattle.mirror.specs.Pairing.{CanReceive, IsReceived}
 use Rattle.group_cluster.specs.Seats as defined
 use Rattle.group_cluster.specs.Seats.{Clear, Sent, Took, Stance, Out, Owed, Linking, Standby, Peers, Agree, WaitsFor, is_sent, is_took, any_seat, back_of}
 use Rattle.group_cluster.specs.Falling.{taken_by, looked_at, commitment, looked}
-use Rattle.group_cluster.specs.Group.{confirmed, first_turn, turned_or, step_by, ack_group}
+use Rattle.group_cluster.specs.Group.{confirmed, first_turn, turned_or, step_by}
 use Rattle.group_cluster.proofs.Seating.{AllSeats, silent, confirmed-turns}
 use Rattle.cluster_rounds.specs.declared.cluster.Cluster.{Cluster}
 use Rattle.cluster_rounds.specs.Worlds.{Shows, IsGood, HasState}
@@ -30,9 +30,9 @@ use Rattle.group_servers.specs.Delivered.TakesBack.{nothing, first, later}
 use Rattle.group_servers.specs.Seats.{is_confirmation, still_waits}
 use Rattle.group_servers.specs.GroupKit.{group_kit}
 use Rattle.group_servers.specs.GroupNodes.{is_linked, waits_by, from_server, active_by, seat_by, seats_by}
-use Rattle.group_servers.proofs.DeliverSteps.{first-of, rest-of}
+use Rattle.group_servers.proofs.DeliverSteps.{first-of, rest-of, of-these, of-none, these-turns, turn_of}
 use Rattle.group_servers.proofs.GoodSteps.{active-by}
-use Rattle.group_servers.proofs.GroupSteps.{ack-step}
+use Rattle.group_servers.proofs.GroupSteps.{turn-step}
 use Rattle.group_servers.proofs.LookSteps.{LinksAgree, waits_while, looked-seats, looked-active, rest-commits, turned-agrees}
 use Rattle.group_servers.proofs.MirrorSteps.{StepHappened, stepped}
 use Rattle.group_servers.proofs.SeatSteps.{at, unsent, waits-is}
@@ -106,20 +106,20 @@ none-back past server (Standby None Took keeps) none = cc
 none-back past server (Standby None Clear keeps) none = refl
 none-back past server (Standby None Sent keeps) none = refl
 
--- From the first server from which one is on the way.
+-- From the first of these servers from which one is on the way.
 
-pub record BackAll (setup : Setup) (past : List Entry) (hand : Hand) (owns : List defined.Seat) (message : Message) (news : List Seat) : Type 0 where
+pub record BackAll (these : Server → Bool) (setup : Setup) (past : List Entry) (hand : Hand) (owns : List defined.Seat) (message : Message) (news : List Seat) : Type 0 where
   pub seats : List defined.Seat
-  pub is : first_turn confirmed owns ≡ Some (seats, [])
+  pub is : first_turn (turn_of these confirmed) owns ≡ Some (seats, [])
   pub news_are : news ≡ seats_by setup past hand seats
   pub came : BackBy message (any_seat is_took owns) (any_seat is_took seats)
   pub sent : any_seat is_sent seats ≡ any_seat is_sent owns
   pub linked : any_seat is_linked seats ≡ any_seat is_linked owns
   pub confirms : (moment : ℤ) (node : Node) → CanReceive message moment node
 
-abbrev pub IsBack : Setup → List Entry → Hand → List defined.Seat → Option Message → List Seat → Type 0
-IsBack setup past hand owns None news = (first_turn confirmed owns ≡ None) × (news ≡ seats_by setup past hand owns)
-IsBack setup past hand owns (Some message) news = BackAll setup past hand owns message news
+abbrev pub IsBack : (Server → Bool) → Setup → List Entry → Hand → List defined.Seat → Option Message → List Seat → Type 0
+IsBack these setup past hand owns None news = (first_turn (turn_of these confirmed) owns ≡ None) × (news ≡ seats_by setup past hand owns)
+IsBack these setup past hand owns (Some message) news = BackAll these setup past hand owns message news
 
 back-here : (message : Message) (one now others : Bool) → BackBy message one now → BackBy message (one || others) (now || others)
 back-here message one now others (inl is) = inl is
@@ -129,10 +129,10 @@ back-there : (message : Message) (first_one one now : Bool) → BackBy message o
 back-there message first_one one now (inl is) = inl is
 back-there message first_one one now (inr is) = inr (ap (λ b. first_one || b) is)
 
-turned-back : (setup : Setup) (past : List Entry) (hand : Hand) (own : defined.Seat) (owns : List defined.Seat) (message : Message) (new : Seat) → BackOne setup past hand own.server own.stance message new → BackAll setup past hand (own ∷ owns) message (new ∷ seats_by setup past hand owns)
-turned-back setup past hand own owns message new one = record {
+turned-back : (these : Server → Bool) (setup : Setup) (past : List Entry) (hand : Hand) (own : defined.Seat) (owns : List defined.Seat) (message : Message) (new : Seat) → these own.server ≡ true → BackOne setup past hand own.server own.stance message new → BackAll these setup past hand (own ∷ owns) message (new ∷ seats_by setup past hand owns)
+turned-back these setup past hand own owns message new one_of one = record {
   seats = at own.server one.now ∷ owns;
-  is = ap (λ found. turned_or own found owns (first_turn confirmed owns)) one.is;
+  is = ap (λ found. turned_or own found owns (first_turn (turn_of these confirmed) owns)) (of-these these confirmed own.server own.stance (Some (one.now, [])) one_of one.is);
   news_are = ap (λ seat. seat ∷ seats_by setup past hand owns) one.seat;
   came = back-here message (is_took own.stance) (is_took one.now) (any_seat is_took owns) one.came;
   sent = ap (λ b. b || any_seat is_sent owns) one.sent;
@@ -140,10 +140,10 @@ turned-back setup past hand own owns message new one = record {
   confirms = one.confirms;
 }
 
-turned-later : (setup : Setup) (past : List Entry) (hand : Hand) (own : defined.Seat) (owns : List defined.Seat) (found : Option Message) (seat : Seat) (news : List Seat) → seat ≡ seat_by setup past hand own → confirmed own.server own.stance ≡ None → IsBack setup past hand owns found news → IsBack setup past hand (own ∷ owns) found (seat ∷ news)
-turned-later setup past hand own owns None seat news is none rest =
+turned-later : (these : Server → Bool) (setup : Setup) (past : List Entry) (hand : Hand) (own : defined.Seat) (owns : List defined.Seat) (found : Option Message) (seat : Seat) (news : List Seat) → seat ≡ seat_by setup past hand own → turn_of these confirmed own.server own.stance ≡ None → IsBack these setup past hand owns found news → IsBack these setup past hand (own ∷ owns) found (seat ∷ news)
+turned-later these setup past hand own owns None seat news is none rest =
     ((λ i. turned_or own (none i) owns (rest.0 i)), (λ i. is i ∷ rest.1 i))
-turned-later setup past hand own owns (Some message) seat news is none rest = record {
+turned-later these setup past hand own owns (Some message) seat news is none rest = record {
   seats = own ∷ rest.seats;
   is = λ i. turned_or own (none i) owns (rest.is i);
   news_are = λ i. is i ∷ rest.news_are i;
@@ -154,18 +154,21 @@ turned-later setup past hand own owns (Some message) seat news is none rest = re
 }
 
 -- **what the code took**
-pub back-turns : (setup : Setup) (past : List Entry) (hand : Hand) (owns : List defined.Seat) (found : Option Message) (seats news : List Seat) → seats ≡ seats_by setup past hand owns → TakesBack found seats news → IsBack setup past hand owns found news
-back-turns setup past hand [] found seats news is nothing = (refl, refl)
-back-turns setup past hand (own ∷ owns) found seats news is nothing = cc
-back-turns setup past hand [] found seats news is (first message rest old new front so) = cc
-back-turns setup past hand [] found seats news is (later seat none deeper) = cc
-back-turns setup past hand (own ∷ owns) found seats news is (first message rest old new front so) =
+pub back-turns : (these : Server → Bool) (setup : Setup) (past : List Entry) (hand : Hand) (owns : List defined.Seat) (found : Option Message) (seats news : List Seat) → seats ≡ seats_by setup past hand owns → TakesBack these found seats news → IsBack these setup past hand owns found news
+back-turns these setup past hand [] found seats news is nothing = (refl, refl)
+back-turns these setup past hand (own ∷ owns) found seats news is nothing = cc
+back-turns these setup past hand [] found seats news is (first message rest old new one_of front so) = cc
+back-turns these setup past hand [] found seats news is (later seat none deeper) = cc
+back-turns these setup past hand (own ∷ owns) found seats news is (first message rest old new one_of front so) =
     let one = back-at setup past hand own.server own.stance message rest new (sym (ap (λ (s : Seat). s.back) (first-of is)) ∙ front) (so ∙ ap (λ (s : Seat). record s { back = rest }) (first-of is)) in
-    subst (λ others. BackAll setup past hand (own ∷ owns) message (new ∷ others)) (sym (rest-of is)) (turned-back setup past hand own owns message new one)
-back-turns setup past hand (own ∷ owns) found seats news is (later {seats = others} {news = more} seat none deeper) =
-    let rest = back-turns setup past hand owns found others more (rest-of is) deeper in
-    let empty = sym (ap (λ (s : Seat). s.back) (first-of is)) ∙ none in
-    turned-later setup past hand own owns found seat more (first-of is) (none-back past own.server own.stance empty) rest
+    let own_of : these own.server ≡ true = subst (λ (s : Seat). these s.server ≡ true) (first-of is) one_of in
+    subst (λ others. BackAll these setup past hand (own ∷ owns) message (new ∷ others)) (sym (rest-of is)) (turned-back these setup past hand own owns message new own_of one)
+back-turns these setup past hand (own ∷ owns) found seats news is (later {seats = others} {news = more} seat none deeper) =
+    let rest = back-turns these setup past hand owns found others more (rest-of is) deeper in
+    let same : these own.server ≡ these seat.server = ap (λ (s : Seat). these s.server) (sym (first-of is)) in
+    let empty : these own.server ≡ true → confirmed own.server own.stance ≡ None = λ one_of.
+    none-back past own.server own.stance (sym (ap (λ (s : Seat). s.back) (first-of is)) ∙ none (sym same ∙ one_of)) in
+    turned-later these setup past hand own owns found seat more (first-of is) (of-none these confirmed own.server own.stance empty) rest
 
 -- Where nothing was on the way back all stays.
 
@@ -177,11 +180,11 @@ stays-later : (found : Option Message) (seat : Seat) (olds news : List Seat) →
 stays-later None seat olds news stays = ap (λ (rest : List Seat). seat ∷ rest) stays
 stays-later (Some message) seat olds news stays = tt
 
-pub back-stays : (found : Option Message) (olds news : List Seat) → TakesBack found olds news → StaysBy found olds news
-back-stays found olds news nothing = refl
-back-stays found olds news (first message rest old new front so) = tt
-back-stays found olds news (later {seats = others} {news = more} seat none deeper) =
-    stays-later found seat others more (back-stays found others more deeper)
+pub back-stays : (these : Server → Bool) (found : Option Message) (olds news : List Seat) → TakesBack these found olds news → StaysBy found olds news
+back-stays these found olds news nothing = refl
+back-stays these found olds news (first message rest old new one_of front so) = tt
+back-stays these found olds news (later {seats = others} {news = more} seat none deeper) =
+    stays-later found seat others more (back-stays these found others more deeper)
 
 -- What the active server is then.
 
@@ -233,8 +236,8 @@ links-agree (Ready entry) seats agree = tt
 
 module _ (n : ℕ) where
   -- the active server then
-  confirmed-active : (setup : Setup) (state : State Peers) (message : Message) (news : List Seat) (active : Node) (back : BackAll setup state.world.core.answered state.world.core.hand state.peers.seats message news) → IsGood (group_kit n) setup state → AllSeats (Agree state.world.core.hand) back.seats → ConfirmsLast message news (active_by setup state.world.core.answered state.world.core.hand state.peers.seats) active → active ≡ active_by setup state.world.core.answered (looked_at back.seats state.world.core.hand) back.seats
-  confirmed-active setup state message news active back good agree confirmed =
+  confirmed-active : (these : Server → Bool) (setup : Setup) (state : State Peers) (message : Message) (news : List Seat) (active : Node) (back : BackAll these setup state.world.core.answered state.world.core.hand state.peers.seats message news) → IsGood (group_kit n) setup state → AllSeats (Agree state.world.core.hand) back.seats → ConfirmsLast message news (active_by setup state.world.core.answered state.world.core.hand state.peers.seats) active → active ≡ active_by setup state.world.core.answered (looked_at back.seats state.world.core.hand) back.seats
+  confirmed-active these setup state message news active back good agree confirmed =
       let past = state.world.core.answered in
       let hand = state.world.core.hand in
       let owns = state.peers.seats in
@@ -255,19 +258,21 @@ module _ (n : ℕ) where
       ]
 
   -- **a message came back**
-  pub ack-happens : (setup : Setup) (state : State Peers) (old : Cluster (Group n)) (active : Node) (news : List Seat) (message : Message) (lines : List (List ℕ)) → IsGood (group_kit n) setup state → Shows (group_kit n) setup state old → TakesBack (Some message) old.servers.seats news → ConfirmsLast message news old.servers.active active → StepHappened n setup (ack_group state) (record old { servers = record old.servers { active = active; seats = news } }) lines lines
-  ack-happens setup state old active news message lines good shows takes last =
+  pub ack-happens : (these : Server → Bool) (setup : Setup) (state : State Peers) (old : Cluster (Group n)) (active : Node) (news : List Seat) (message : Message) (lines : List (List ℕ)) → IsGood (group_kit n) setup state → Shows (group_kit n) setup state old → TakesBack these (Some message) old.servers.seats news → ConfirmsLast message news old.servers.active active → StepHappened n setup (step_by (first_turn (turn_of these confirmed) state.peers.seats) state) (record old { servers = record old.servers { active = active; seats = news } }) lines lines
+  ack-happens these setup state old active news message lines good shows takes last =
       let past = state.world.core.answered in
       let hand = state.world.core.hand in
       let owns = state.peers.seats in
-      let back : BackAll setup past hand owns message news = back-turns setup past hand owns (Some message) old.servers.seats news (ap (λ (servers : Group n). servers.seats) shows.own) takes in
-      let agree = turned-agrees confirmed hand state.peers.acting (confirmed-turns hand) owns back.seats [] back.is good.steady.good.agree in
+      let turn = turn_of these confirmed in
+      let turning = these-turns these hand confirmed (confirmed-turns hand) in
+      let back : BackAll these setup past hand owns message news = back-turns these setup past hand owns (Some message) old.servers.seats news (ap (λ (servers : Group n). servers.seats) shows.own) takes in
+      let agree = turned-agrees turn hand state.peers.acting turning owns back.seats [] back.is good.steady.good.agree in
       let C : Node → Type 0 = λ node. ConfirmsLast message news node active in
-      let node = confirmed-active setup state message news active back good agree (subst C (ap (λ (servers : Group n). servers.active) shows.own) last) in
+      let node = confirmed-active these setup state message news active back good agree (subst C (ap (λ (servers : Group n). servers.active) shows.own) last) in
       let others : news ≡ seats_by setup past (looked_at back.seats hand) back.seats = back.news_are ∙ looked-seats setup past back.seats hand in
       let done = waits-commits past back.seats hand (goes-on hand owns back.seats back.sent good.steady.good.waits) in
       let outcome = looked back.seats hand [] state in
-      let step = ack-step n setup state back.seats [] good silent back.is in
+      let step = turn-step n setup state turn back.seats [] good turning silent back.is in
       let new = record old { servers = record old.servers { active = active; seats = news } } in
       record {
         outcome = outcome;
@@ -278,16 +283,16 @@ module _ (n : ℕ) where
             (sym (append-nil lines) ∙ ap (λ told. lines ++ printed told) (sym done.1));
       }
 
-  pub acks-none : (setup : Setup) (state : State Peers) (old : Cluster (Group n)) (news : List Seat) → Shows (group_kit n) setup state old → TakesBack None old.servers.seats news → (ack_group state ≡ None) × (news ≡ old.servers.seats)
-  acks-none setup state old news shows takes =
+  pub acks-none : (these : Server → Bool) (setup : Setup) (state : State Peers) (old : Cluster (Group n)) (news : List Seat) → Shows (group_kit n) setup state old → TakesBack these None old.servers.seats news → (step_by (first_turn (turn_of these confirmed) state.peers.seats) state ≡ None) × (news ≡ old.servers.seats)
+  acks-none these setup state old news shows takes =
       let core = state.world.core in
       let own = ap (λ (servers : Group n). servers.seats) shows.own in
-      let none = back-turns setup core.answered core.hand state.peers.seats None old.servers.seats news own takes in
+      let none = back-turns these setup core.answered core.hand state.peers.seats None old.servers.seats news own takes in
       (ap (λ turned. step_by turned state) none.0, none.1 ∙ sym own)
 
   -- **what the active server can be told**
-  pub can-confirm : (old : Cluster (Group n)) (message : Message) (news : List Seat) → HasState (group_kit n) old → TakesBack (Some message) old.servers.seats news → (moment : ℤ) → CanReceive message moment old.servers.active
-  can-confirm old message news has takes moment =
+  pub can-confirm : (these : Server → Bool) (old : Cluster (Group n)) (message : Message) (news : List Seat) → HasState (group_kit n) old → TakesBack these (Some message) old.servers.seats news → (moment : ℤ) → CanReceive message moment old.servers.active
+  can-confirm these old message news has takes moment =
       let core = has.state.world.core in
-      let back : BackAll has.setup core.answered core.hand has.state.peers.seats message news = back-turns has.setup core.answered core.hand has.state.peers.seats (Some message) old.servers.seats news (ap (λ (servers : Group n). servers.seats) has.shows.own) takes in
+      let back : BackAll these has.setup core.answered core.hand has.state.peers.seats message news = back-turns these has.setup core.answered core.hand has.state.peers.seats (Some message) old.servers.seats news (ap (λ (servers : Group n). servers.seats) has.shows.own) takes in
       back.confirms moment old.servers.active

@@ -1,5 +1,5 @@
 -- What a message that reaches a server beside the active one comes to.
-use Rattle.std.proofs.Common.{◌≡◌, ℕ, suc, Bool, true, false, Option, Some, None, List, [], ◌∷◌, ◌++◌, ◌⊎◌, inl, inr, ◌||◌, length, map, refl, ap, sym, ◌∙◌, subst, arith}
+use Rattle.std.proofs.Common.{◌≡◌, ℕ, suc, Bool, true, false, if◌then◌else◌, Option, Some, None, List, [], ◌∷◌, ◌++◌, ◌⊎◌, inl, inr, ◌||◌, length, map, refl, ap, sym, ◌∙◌, subst, arith}
 use Rattle.std.specs.List.{AllByRecursion}
 use Rattle.std.proofs.lemmas.Bool.{or_right}
 use Rattle.script_lines.specs.declared.line.Server.{Server}
@@ -23,8 +23,8 @@ use Rattle.mirror.proofs.Judging.{next-number}
 use Rattle.mirror.proofs.ReplicaLaws.{count-is, next-of, new-of}
 use Rattle.group_cluster.specs.Seats as defined
 use Rattle.group_cluster.specs.Seats.{Mark, Clear, Sent, Took, Stance, Out, Owed, Linking, Standby, Agree, is_sent, is_took, any_seat, link_of, back_of, join_ack}
-use Rattle.group_cluster.specs.Group.{mirrored, first_turn, turned_or}
-use Rattle.group_cluster.proofs.Seating.{AllSeats, AreRoles, silent, stood}
+use Rattle.group_cluster.specs.Group.{Turn, mirrored, first_turn, turned_or}
+use Rattle.group_cluster.proofs.Seating.{AllSeats, AreRoles, silent, stood, IsTurning, Turns}
 use Rattle.group_servers.specs.declared.group.Seat.{Seat}
 use Rattle.group_servers.specs.Delivered.{CanTake, CanTakeBy, TellsDelivered, Comes, FirstComes}
 use Rattle.group_servers.specs.Delivered.FirstComes.{nowhere, here, there}
@@ -186,27 +186,53 @@ none-turns setup past Empty server (Standby on_way Sent keeps) agree none = elim
 none-turns setup past (Applied entry) server (Standby on_way Sent keeps) agree none = elim agree [ ]
 none-turns setup past (Ready entry) server (Standby on_way Sent keeps) agree none = elim agree [ ]
 
--- A message comes to the first server to which one is on the way.
+-- A turn of these servers alone.
 
-pub record TurnsAll (setup : Setup) (past : List Entry) (hand : Hand) (owns : List defined.Seat) (committed : Option Entry) (news : List Seat) (before after : List (List ℕ)) : Type 0 where
+abbrev pub turn_of : (Server → Bool) → Turn → Turn
+turn_of these turn server stance = if these server then turn server stance else None
+
+pub of-these : (these : Server → Bool) (turn : Turn) (server : Server) (stance : Stance) (found : Option (Stance × List Told)) → these server ≡ true → turn server stance ≡ found → turn_of these turn server stance ≡ found
+of-these these turn server stance found one is = ap (λ b. if b then turn server stance else None) one ∙ is
+
+-- it is none of these, or the turn gives nothing
+pub of-none : (these : Server → Bool) (turn : Turn) (server : Server) (stance : Stance) → (these server ≡ true → turn server stance ≡ None) → turn_of these turn server stance ≡ None
+of-none these turn server stance none = by (these server) refl
+  where
+    by : (b : Bool) → these server ≡ b → turn_of these turn server stance ≡ None
+    by true is = of-these these turn server stance None is (none is)
+    by false is = ap (λ b. if b then turn server stance else None) is
+
+pub these-turns : (these : Server → Bool) (hand : Hand) (turn : Turn) → IsTurning hand turn → IsTurning hand (turn_of these turn)
+these-turns these hand turn turns server stance found =
+    let S : Bool → Type 0 = λ b. (if b then turn server stance else None) ≡ Some found → Agree hand stance → Turns hand (turn_of these turn) server stance found in
+    elim (these server) as S [
+      | true ↦ λ is agree.
+          let leaves = turns server stance found is agree in
+          record { agree = leaves.agree; standby = leaves.standby; shown = leaves.shown; fewer = leaves.fewer; roles = leaves.roles }
+      | false ↦ λ is agree. cc
+    ]
+
+-- A message comes to the first of these servers to which one is on the way.
+
+pub record TurnsAll (these : Server → Bool) (setup : Setup) (past : List Entry) (hand : Hand) (owns : List defined.Seat) (committed : Option Entry) (news : List Seat) (before after : List (List ℕ)) : Type 0 where
   pub seats : List defined.Seat
   pub told : List Told
-  pub is : first_turn (mirrored past) owns ≡ Some (seats, told)
+  pub is : first_turn (turn_of these (mirrored past)) owns ≡ Some (seats, told)
   pub news_are : news ≡ seats_by setup past hand seats
   pub lines : after ≡ before ++ printed told
   pub roles : AreRoles told
   pub came : CameBy hand committed told (any_seat is_sent seats) (any_seat is_took seats)
   pub linked : any_seat is_linked seats ≡ any_seat is_linked owns
 
-abbrev pub IsDelivered : Setup → List Entry → Hand → List defined.Seat → Option (Option Entry) → List Seat → List (List ℕ) → List (List ℕ) → Type 0
-IsDelivered setup past hand owns None news before after = (first_turn (mirrored past) owns ≡ None) × (news ≡ seats_by setup past hand owns) × (after ≡ before)
-IsDelivered setup past hand owns (Some committed) news before after = TurnsAll setup past hand owns committed news before after
+abbrev pub IsDelivered : (Server → Bool) → Setup → List Entry → Hand → List defined.Seat → Option (Option Entry) → List Seat → List (List ℕ) → List (List ℕ) → Type 0
+IsDelivered these setup past hand owns None news before after = (first_turn (turn_of these (mirrored past)) owns ≡ None) × (news ≡ seats_by setup past hand owns) × (after ≡ before)
+IsDelivered these setup past hand owns (Some committed) news before after = TurnsAll these setup past hand owns committed news before after
 
-turned-here : (setup : Setup) (past : List Entry) (hand : Hand) (own : defined.Seat) (owns : List defined.Seat) (committed : Option Entry) (new : Seat) (before after : List (List ℕ)) → TurnsOne setup past hand own.server own.stance committed new before after → TurnsAll setup past hand (own ∷ owns) committed (new ∷ seats_by setup past hand owns) before after
-turned-here setup past hand own owns committed new before after one = record {
+turned-here : (these : Server → Bool) (setup : Setup) (past : List Entry) (hand : Hand) (own : defined.Seat) (owns : List defined.Seat) (committed : Option Entry) (new : Seat) (before after : List (List ℕ)) → these own.server ≡ true → TurnsOne setup past hand own.server own.stance committed new before after → TurnsAll these setup past hand (own ∷ owns) committed (new ∷ seats_by setup past hand owns) before after
+turned-here these setup past hand own owns committed new before after one_of one = record {
   seats = at own.server one.now ∷ owns;
   told = one.told;
-  is = ap (λ found. turned_or own found owns (first_turn (mirrored past) owns)) one.is;
+  is = ap (λ found. turned_or own found owns (first_turn (turn_of these (mirrored past)) owns)) (of-these these (mirrored past) own.server own.stance (Some (one.now, one.told)) one_of one.is);
   news_are = ap (λ seat. seat ∷ seats_by setup past hand owns) one.seat;
   lines = one.lines;
   roles = one.roles;
@@ -214,10 +240,10 @@ turned-here setup past hand own owns committed new before after one = record {
   linked = ap (λ b. b || any_seat is_linked owns) one.linked;
 }
 
-turned-there : (setup : Setup) (past : List Entry) (hand : Hand) (own : defined.Seat) (owns : List defined.Seat) (found : Option (Option Entry)) (seat : Seat) (news : List Seat) (before after : List (List ℕ)) → seat ≡ seat_by setup past hand own → mirrored past own.server own.stance ≡ None → IsDelivered setup past hand owns found news before after → IsDelivered setup past hand (own ∷ owns) found (seat ∷ news) before after
-turned-there setup past hand own owns None seat news before after is none rest =
+turned-there : (these : Server → Bool) (setup : Setup) (past : List Entry) (hand : Hand) (own : defined.Seat) (owns : List defined.Seat) (found : Option (Option Entry)) (seat : Seat) (news : List Seat) (before after : List (List ℕ)) → seat ≡ seat_by setup past hand own → turn_of these (mirrored past) own.server own.stance ≡ None → IsDelivered these setup past hand owns found news before after → IsDelivered these setup past hand (own ∷ owns) found (seat ∷ news) before after
+turned-there these setup past hand own owns None seat news before after is none rest =
     ((λ i. turned_or own (none i) owns (rest.0 i)), (λ i. is i ∷ rest.1 i), rest.2)
-turned-there setup past hand own owns (Some committed) seat news before after is none rest = record {
+turned-there these setup past hand own owns (Some committed) seat news before after is none rest = record {
   seats = own ∷ rest.seats;
   told = rest.told;
   is = λ i. turned_or own (none i) owns (rest.is i);
@@ -229,19 +255,22 @@ turned-there setup past hand own owns (Some committed) seat news before after is
 }
 
 -- **what the code delivered**
-pub deliver-turns : (setup : Setup) (past : List Entry) (hand : Hand) (owns : List defined.Seat) (found : Option (Option Entry)) (seats news : List Seat) (before after : List (List ℕ)) → IsHistory setup past → MayCome setup past hand → AllSeats (Agree hand) owns → seats ≡ seats_by setup past hand owns → FirstComes found seats news before after → IsDelivered setup past hand owns found news before after
-deliver-turns setup past hand [] found seats news before after history may agree is nowhere = (refl, refl, refl)
-deliver-turns setup past hand (own ∷ owns) found seats news before after history may agree is nowhere = cc
-deliver-turns setup past hand [] found seats news before after history may agree is (here old new comes) = cc
-deliver-turns setup past hand [] found seats news before after history may agree is (there seat none deeper) = cc
-deliver-turns setup past hand (own ∷ owns) found seats news before after history may agree is (here {committed = committed} old new comes) =
+pub deliver-turns : (these : Server → Bool) (setup : Setup) (past : List Entry) (hand : Hand) (owns : List defined.Seat) (found : Option (Option Entry)) (seats news : List Seat) (before after : List (List ℕ)) → IsHistory setup past → MayCome setup past hand → AllSeats (Agree hand) owns → seats ≡ seats_by setup past hand owns → FirstComes these found seats news before after → IsDelivered these setup past hand owns found news before after
+deliver-turns these setup past hand [] found seats news before after history may agree is nowhere = (refl, refl, refl)
+deliver-turns these setup past hand (own ∷ owns) found seats news before after history may agree is nowhere = cc
+deliver-turns these setup past hand [] found seats news before after history may agree is (here old new one_of comes) = cc
+deliver-turns these setup past hand [] found seats news before after history may agree is (there seat none deeper) = cc
+deliver-turns these setup past hand (own ∷ owns) found seats news before after history may agree is (here {committed = committed} old new one_of comes) =
     let C : Seat → Type 0 = λ seat. Comes (Some committed) seat new before after in
     let one = turns-at setup past hand own.server own.stance committed new before after history may agree.0 (subst C (first-of is) comes) in
-    subst (λ rest. TurnsAll setup past hand (own ∷ owns) committed (new ∷ rest) before after) (sym (rest-of is)) (turned-here setup past hand own owns committed new before after one)
-deliver-turns setup past hand (own ∷ owns) found seats news before after history may agree is (there {seats = others} {news = more} seat none deeper) =
-    let rest = deliver-turns setup past hand owns found others more before after history may agree.1 (rest-of is) deeper in
-    let empty = sym (ap (λ (s : Seat). s.link) (first-of is)) ∙ none in
-    turned-there setup past hand own owns found seat more before after (first-of is) (none-turns setup past hand own.server own.stance agree.0 empty) rest
+    let own_of : these own.server ≡ true = subst (λ (s : Seat). these s.server ≡ true) (first-of is) one_of in
+    subst (λ rest. TurnsAll these setup past hand (own ∷ owns) committed (new ∷ rest) before after) (sym (rest-of is)) (turned-here these setup past hand own owns committed new before after own_of one)
+deliver-turns these setup past hand (own ∷ owns) found seats news before after history may agree is (there {seats = others} {news = more} seat none deeper) =
+    let rest = deliver-turns these setup past hand owns found others more before after history may agree.1 (rest-of is) deeper in
+    let same : these own.server ≡ these seat.server = ap (λ (s : Seat). these s.server) (sym (first-of is)) in
+    let empty : these own.server ≡ true → mirrored past own.server own.stance ≡ None = λ one_of.
+    none-turns setup past hand own.server own.stance agree.0 (sym (ap (λ (s : Seat). s.link) (first-of is)) ∙ none (sym same ∙ one_of)) in
+    turned-there these setup past hand own owns found seat more before after (first-of is) (of-none these (mirrored past) own.server own.stance empty) rest
 
 -- Where nothing was on the way all stays.
 
@@ -253,8 +282,8 @@ stays-there : (found : Option (Option Entry)) (seat : Seat) (olds news : List Se
 stays-there None seat olds news before after stays = (ap (λ (rest : List Seat). seat ∷ rest) stays.0, stays.1)
 stays-there (Some committed) seat olds news before after stays = tt
 
-pub comes-stays : (found : Option (Option Entry)) (olds news : List Seat) (before after : List (List ℕ)) → FirstComes found olds news before after → StaysBy found olds news before after
-comes-stays found olds news before after nowhere = (refl, refl)
-comes-stays found olds news before after (here old new comes) = tt
-comes-stays found olds news before after (there {seats = others} {news = more} seat none deeper) =
-    stays-there found seat others more before after (comes-stays found others more before after deeper)
+pub comes-stays : (these : Server → Bool) (found : Option (Option Entry)) (olds news : List Seat) (before after : List (List ℕ)) → FirstComes these found olds news before after → StaysBy found olds news before after
+comes-stays these found olds news before after nowhere = (refl, refl)
+comes-stays these found olds news before after (here old new one_of comes) = tt
+comes-stays these found olds news before after (there {seats = others} {news = more} seat none deeper) =
+    stays-there found seat others more before after (comes-stays these found others more before after deeper)

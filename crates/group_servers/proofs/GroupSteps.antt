@@ -22,9 +22,9 @@ use Rattle.event_text.specs.Texts.{printed, lines_of}
 use Rattle.group_cluster.specs.Answering.{lines_answering}
 use Rattle.group_cluster.specs.Seats.{Seat, Peers, is_sent, is_took, any_seat}
 use Rattle.group_cluster.specs.Falling.{taken_by, looked_at, commitment, looked, front_of, named, next_of, takes, is_fresh, is_joining, count_fallen, all_stood, taken_over}
-use Rattle.group_cluster.specs.Group.{mirrored, confirmed, first_turn, step_by, mirror_group, ack_group, falls, work_as, work_by, work_done, work_group, group}
-use Rattle.group_cluster.proofs.Seating.{AreRoles, silent, stood}
-use Rattle.group_cluster.proofs.Stepping.{Nears, group_at, Leaves, mirror-steps, ack-steps, work-steps}
+use Rattle.group_cluster.specs.Group.{Turn, mirrored, confirmed, first_turn, step_by, mirror_group, ack_group, falls, work_as, work_by, work_done, work_group, group}
+use Rattle.group_cluster.proofs.Seating.{AreRoles, silent, stood, IsTurning, mirrored-turns, confirmed-turns}
+use Rattle.group_cluster.proofs.Stepping.{Nears, group_at, Leaves, step-leaves, work-steps}
 use Rattle.cluster_clients.specs.Taken.{kept_lines}
 use Rattle.cluster_clients.proofs.ToldLines.{less-one, not-less}
 use Rattle.cluster_rounds.specs.Kits.{device_by}
@@ -157,18 +157,20 @@ module _ (n : ℕ) where
     abbrev calm : Device
     calm = device_by setup (λ number. 0)
 
-    -- **a message comes to a server, and one comes back**, by the servers that it leaves and the lines of their roles
-    pub mirror-step : (state : State Peers) (seats : List Seat) (roles : List Told) → IsGood (group_kit n) setup state → AreRoles roles → first_turn (mirrored state.world.core.answered) state.peers.seats ≡ Some (seats, roles) → IsStep setup state (looked seats state.world.core.hand roles state)
-    mirror-step state seats roles good are is =
-        let found : mirror_group state ≡ Some (looked seats state.world.core.hand roles state) = ap (λ turned. step_by turned state) is in
-        let near = subst (LeavesIf calm state) found (mirror-steps n (plain_of setup) (is_plain setup) calm (SaysUnasked (plain_of setup)) (unasked-borne (plain_of setup)) state good.steady.good) in
+    -- **a message comes to a server, or from it**, by the turn that it is, the servers that it leaves and the lines of their roles
+    pub turn-step : (state : State Peers) (turn : Turn) (seats : List Seat) (roles : List Told) → IsGood (group_kit n) setup state → IsTurning state.world.core.hand turn → AreRoles roles → first_turn turn state.peers.seats ≡ Some (seats, roles) → IsStep setup state (looked seats state.world.core.hand roles state)
+    turn-step state turn seats roles good turning are is =
+        let found : step_by (first_turn turn state.peers.seats) state ≡ Some (looked seats state.world.core.hand roles state) = ap (λ turned. step_by turned state) is in
+        let leaves = step-leaves n (plain_of setup) (is_plain setup) calm (SaysUnasked (plain_of setup)) (unasked-borne (plain_of setup)) state turn turning good.steady.good (first_turn turn state.peers.seats) refl in
+        let near = subst (LeavesIf calm state) found leaves in
         near-step state (looked seats state.world.core.hand roles state) good near (looked-told are seats state)
 
+    pub mirror-step : (state : State Peers) (seats : List Seat) (roles : List Told) → IsGood (group_kit n) setup state → AreRoles roles → first_turn (mirrored state.world.core.answered) state.peers.seats ≡ Some (seats, roles) → IsStep setup state (looked seats state.world.core.hand roles state)
+    mirror-step state seats roles good are is =
+        turn-step state (mirrored state.world.core.answered) seats roles good (mirrored-turns state.world.core.answered state.world.core.hand) are is
+
     pub ack-step : (state : State Peers) (seats : List Seat) (roles : List Told) → IsGood (group_kit n) setup state → AreRoles roles → first_turn confirmed state.peers.seats ≡ Some (seats, roles) → IsStep setup state (looked seats state.world.core.hand roles state)
-    ack-step state seats roles good are is =
-        let found : ack_group state ≡ Some (looked seats state.world.core.hand roles state) = ap (λ turned. step_by turned state) is in
-        let near = subst (LeavesIf calm state) found (ack-steps n (plain_of setup) (is_plain setup) calm (SaysUnasked (plain_of setup)) (unasked-borne (plain_of setup)) state good.steady.good) in
-        near-step state (looked seats state.world.core.hand roles state) good near (looked-told are seats state)
+    ack-step state seats roles good are is = turn-step state confirmed seats roles good (confirmed-turns state.world.core.hand) are is
 
     -- The work of the entry in hand.
 

@@ -3,6 +3,7 @@ use Rattle.std.proofs.Common.{◌≡◌, ℕ, suc, Bool, true, false, ◌||◌, 
 use Rattle.std.specs.List.{AllByRecursion, list_any}
 use Rattle.calls.specs.History.{Pushed}
 use Rattle.plain_service.specs.Setups.{Setup}
+use Rattle.script_lines.specs.declared.line.Server.{Server}
 use Rattle.service_laws.specs.PlainOf.{plain_of}
 use Rattle.cluster_facts.specs.Types.{Entry}
 use Rattle.cluster_facts.specs.History.{Hand, Empty, Waiting, Applied, Ready, committed, committed_by}
@@ -16,7 +17,7 @@ use Rattle.lead_server.specs.Told.{Commits}
 use Rattle.group_cluster.specs.Seats as defined
 use Rattle.group_cluster.specs.Seats.{Peers, is_sent, is_took, any_seat}
 use Rattle.group_cluster.specs.Falling.{looked_at, commitment, looked}
-use Rattle.group_cluster.specs.Group.{mirrored, step_by, mirror_group}
+use Rattle.group_cluster.specs.Group.{mirrored, first_turn, step_by}
 use Rattle.group_cluster.proofs.Saying.{legal-follows}
 use Rattle.group_cluster.proofs.Seating.{mirrored-turns}
 use Rattle.group_cluster.proofs.Stepping.{group_at}
@@ -32,10 +33,10 @@ use Rattle.group_servers.specs.Seats.{entry_goes}
 use Rattle.group_servers.specs.GroupKit.{group_kit}
 use Rattle.group_servers.specs.GroupNodes.{is_linked, waits_by, active_by, seats_by, servers_of}
 use Rattle.group_servers.proofs.GoodSteps.{answered-history, accepted-history}
-use Rattle.group_servers.proofs.GroupSteps.{mirror-step}
+use Rattle.group_servers.proofs.GroupSteps.{turn-step}
 use Rattle.group_servers.proofs.LookSteps.{LinksAgree, waits_while, looked-seats, looked-active, waiting-commits, turned-agrees}
 use Rattle.group_servers.proofs.SeatSteps.{goes-is}
-use Rattle.group_servers.proofs.DeliverSteps.{MayCome, CameBy, TurnsAll, all-take, deliver-turns}
+use Rattle.group_servers.proofs.DeliverSteps.{MayCome, CameBy, TurnsAll, all-take, deliver-turns, these-turns, turn_of}
 
 -- What came tells of the entry in hand.
 
@@ -149,17 +150,19 @@ module _ (n : ℕ) where
       let node : active_by setup past hand state.peers.seats ≡ active_by setup past (looked_at owns hand) owns = (λ i. first (sym linked i) (sym waits i)) ∙ sym (looked-active setup past owns hand links) in
       (λ i. record (own i) { seats = (are ∙ looked-seats setup past owns hand) i }) ∙ (λ i. record (servers_of n setup state) { active = node i; seats = seats_by setup past (looked_at owns hand) owns })
 
-  -- **a message came to a server**
-  pub mirror-happens : (setup : Setup) (state : State Peers) (old : Cluster (Group n)) (news : List Seat) (history : Pushed) (found : Option Entry) (before mid after : List (List ℕ)) → IsGood (group_kit n) setup state → Shows (group_kit n) setup state old → FirstComes (Some found) old.servers.seats news before mid → Commits (committed_now (list_any entry_goes news) found) old.history.entries history.entries mid after → StepHappened setup (mirror_group state) (record old { servers = record old.servers { seats = news }; history = history }) before after
-  mirror-happens setup state old news history found before mid after good shows comes commits =
+  -- **a message came to one of these servers**
+  pub mirror-happens : (these : Server → Bool) (setup : Setup) (state : State Peers) (old : Cluster (Group n)) (news : List Seat) (history : Pushed) (found : Option Entry) (before mid after : List (List ℕ)) → IsGood (group_kit n) setup state → Shows (group_kit n) setup state old → FirstComes these (Some found) old.servers.seats news before mid → Commits (committed_now (list_any entry_goes news) found) old.history.entries history.entries mid after → StepHappened setup (step_by (first_turn (turn_of these (mirrored state.world.core.answered)) state.peers.seats) state) (record old { servers = record old.servers { seats = news }; history = history }) before after
+  mirror-happens these setup state old news history found before mid after good shows comes commits =
       let past = state.world.core.answered in
       let hand = state.world.core.hand in
       let owns = state.peers.seats in
+      let turn = turn_of these (mirrored past) in
+      let turning = these-turns these hand (mirrored past) (mirrored-turns past hand) in
       let agree = good.steady.good.agree in
-      let turns : TurnsAll setup past hand owns found news before mid = deliver-turns setup past hand owns (Some found) old.servers.seats news before mid (answered-history n setup state good) (may-come setup state good) agree (ap (λ (servers : Group n). servers.seats) shows.own) comes in
+      let turns : TurnsAll these setup past hand owns found news before mid = deliver-turns these setup past hand owns (Some found) old.servers.seats news before mid (answered-history n setup state good) (may-come setup state good) agree (ap (λ (servers : Group n). servers.seats) shows.own) comes in
       let outcome = looked turns.seats hand turns.told state in
-      let step = mirror-step n setup state turns.seats turns.told good turns.roles turns.is in
-      let goes : list_any entry_goes news ≡ any_seat is_sent turns.seats = ap (list_any entry_goes) turns.news_are ∙ goes-is setup past hand turns.seats (turned-agrees (mirrored past) hand state.peers.acting (mirrored-turns past hand) owns turns.seats turns.told turns.is agree) in
+      let step = turn-step n setup state turn turns.seats turns.told good turning turns.roles turns.is in
+      let goes : list_any entry_goes news ≡ any_seat is_sent turns.seats = ap (list_any entry_goes) turns.news_are ∙ goes-is setup past hand turns.seats (turned-agrees turn hand state.peers.acting turning owns turns.seats turns.told turns.is agree) in
       let C : Bool → Type 0 = λ b. Commits (committed_now b found) old.history.entries history.entries mid after in
       let done = came-commits past turns.seats hand found turns.told old.history.entries history.entries before mid after turns.came shows.history turns.lines (subst C goes commits) in
       let new = record old { servers = record old.servers { seats = news }; history = history } in
@@ -171,10 +174,10 @@ module _ (n : ℕ) where
             done.entries done.lines;
       }
 
-  -- where nothing is on the way to any server there is none
-  pub mirrors-none : (setup : Setup) (state : State Peers) (old : Cluster (Group n)) (news : List Seat) (before after : List (List ℕ)) → IsGood (group_kit n) setup state → Shows (group_kit n) setup state old → FirstComes None old.servers.seats news before after → (mirror_group state ≡ None) × (news ≡ old.servers.seats) × (after ≡ before)
-  mirrors-none setup state old news before after good shows comes =
+  -- where nothing is on the way to any of them there is none
+  pub mirrors-none : (these : Server → Bool) (setup : Setup) (state : State Peers) (old : Cluster (Group n)) (news : List Seat) (before after : List (List ℕ)) → IsGood (group_kit n) setup state → Shows (group_kit n) setup state old → FirstComes these None old.servers.seats news before after → (step_by (first_turn (turn_of these (mirrored state.world.core.answered)) state.peers.seats) state ≡ None) × (news ≡ old.servers.seats) × (after ≡ before)
+  mirrors-none these setup state old news before after good shows comes =
       let core = state.world.core in
       let own = ap (λ (servers : Group n). servers.seats) shows.own in
-      let none = deliver-turns setup core.answered core.hand state.peers.seats None old.servers.seats news before after (answered-history n setup state good) (may-come setup state good) good.steady.good.agree own comes in
+      let none = deliver-turns these setup core.answered core.hand state.peers.seats None old.servers.seats news before after (answered-history n setup state good) (may-come setup state good) good.steady.good.agree own comes in
       (ap (λ turned. step_by turned state) none.0, none.1 ∙ sym own, none.2)

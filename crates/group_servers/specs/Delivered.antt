@@ -52,25 +52,30 @@ abbrev pub Comes : Option (Option Entry) → Seat → Seat → List (List ℕ) �
 Comes None old new before after = (old.link ≡ []) × (new ≡ old) × (after ≡ before)
 Comes (Some committed) old new before after = (message : Message) × (rest : List Message) × Delivers message rest committed old new before after
 
--- the first one on the way to the first server to which one is on the way, if there is one
-pub data FirstComes : Option (Option Entry) → List Seat → List Seat → List (List ℕ) → List (List ℕ) → Type 0 where
-  nowhere : {lines : List (List ℕ)} → FirstComes None [] [] lines lines
-  here : {seats : List Seat} {committed : Option Entry} {before after : List (List ℕ)} → (old new : Seat)
-      → Comes (Some committed) old new before after → FirstComes (Some committed) (old ∷ seats) (new ∷ seats) before after
-  there : {found : Option (Option Entry)} {seats news : List Seat} {before after : List (List ℕ)} → (seat : Seat) → seat.link ≡ []
-      → FirstComes found seats news before after → FirstComes found (seat ∷ seats) (seat ∷ news) before after
+-- the first one on the way to the first server of these to which one is on the way, if there is one
+pub data FirstComes (these : Server → Bool) : Option (Option Entry) → List Seat → List Seat → List (List ℕ) → List (List ℕ) → Type 0 where
+  nowhere : {lines : List (List ℕ)} → FirstComes these None [] [] lines lines
+  here : {seats : List Seat} {committed : Option Entry} {before after : List (List ℕ)} → (old new : Seat) → these old.server ≡ true
+      → Comes (Some committed) old new before after → FirstComes these (Some committed) (old ∷ seats) (new ∷ seats) before after
+  there : {found : Option (Option Entry)} {seats news : List Seat} {before after : List (List ℕ)} → (seat : Seat)
+      → (these seat.server ≡ true → seat.link ≡ [])
+      → FirstComes these found seats news before after → FirstComes these found (seat ∷ seats) (seat ∷ news) before after
 
 -- what is committed of an entry that a server applied: nothing while it goes to another one
 abbrev pub committed_now : (goes : Bool) → Option Entry → Option Entry
 committed_now goes committed = if goes then None else committed
 
--- the first message on the way back from the first server from which one is, if there is one
-pub data TakesBack : Option Message → List Seat → List Seat → Type 0 where
-  nothing : TakesBack None [] []
-  first : {seats : List Seat} → (message : Message) (rest : List Message) (old new : Seat) → old.back ≡ message ∷ rest
-      → new ≡ record old { back = rest } → TakesBack (Some message) (old ∷ seats) (new ∷ seats)
-  later : {found : Option Message} {seats news : List Seat} → (seat : Seat) → seat.back ≡ [] → TakesBack found seats news
-      → TakesBack found (seat ∷ seats) (seat ∷ news)
+-- the first message on the way back from the first server of these from which one is, if there is one
+pub data TakesBack (these : Server → Bool) : Option Message → List Seat → List Seat → Type 0 where
+  nothing : TakesBack these None [] []
+  first : {seats : List Seat} → (message : Message) (rest : List Message) (old new : Seat) → these old.server ≡ true
+      → old.back ≡ message ∷ rest → new ≡ record old { back = rest } → TakesBack these (Some message) (old ∷ seats) (new ∷ seats)
+  later : {found : Option Message} {seats news : List Seat} → (seat : Seat) → (these seat.server ≡ true → seat.back ≡ [])
+      → TakesBack these found seats news → TakesBack these found (seat ∷ seats) (seat ∷ news)
+
+-- all servers
+abbrev pub every : Server → Bool
+every server = true
 
 -- the active server hears the last confirmation of an entry, and no other message
 abbrev pub ConfirmsBy : Bool → Message → Node → Node → Type 0

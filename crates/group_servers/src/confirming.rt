@@ -4,7 +4,7 @@ ghost use Rattle.cluster_rounds.specs.Worlds.{HasState};
 ghost use Rattle.cluster_rounds.specs.Broken.{BreaksAlone};
 ghost use Rattle.group_cluster.specs.Group.{ack_group};
 ghost use Rattle.mirror.specs.Pairing.{CanReceive};
-ghost use Rattle.group_servers.specs.Delivered.{TakesBack, ConfirmsLast};
+ghost use Rattle.group_servers.specs.Delivered.{TakesBack, ConfirmsLast, every};
 ghost use Rattle.group_servers.specs.GroupKit.{group_kit};
 ghost use Rattle.group_servers.specs.Steps.{StepsBy};
 
@@ -19,7 +19,7 @@ use wire::Message;
 
 /// Takes the first message on the way back from the first server from which one is, if there is one.
 fn take_back(alloc: Global, seats: &mut [Seat]) -> Option<Message>
-    ensures { TakesBack result seats.old seats.new }
+    ensures { TakesBack every result seats.old seats.new }
 {
     match seats.split_first_mut() {
         None => None,
@@ -32,7 +32,7 @@ fn take_back(alloc: Global, seats: &mut [Seat]) -> Option<Message>
 
 /// The active server hears a message that came back where that is the last confirmation of the entry in hand. Of others it needs to know
 /// nothing.
-fn confirm_last(
+pub(crate) fn confirm_last(
     alloc: Global,
     active: &mut Node,
     seats: &[Seat],

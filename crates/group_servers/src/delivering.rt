@@ -6,7 +6,7 @@ ghost use Rattle.cluster_rounds.specs.Worlds.{HasState};
 ghost use Rattle.cluster_rounds.specs.Broken.{BreaksAlone};
 ghost use Rattle.group_cluster.specs.Group.{mirror_group};
 ghost use Rattle.lead_server.specs.Told.{Commits};
-ghost use Rattle.group_servers.specs.Delivered.{CanTake, Hears, joined_lines, TellsDelivered, Comes, FirstComes, committed_now};
+ghost use Rattle.group_servers.specs.Delivered.{CanTake, Hears, joined_lines, TellsDelivered, Comes, FirstComes, committed_now, every};
 ghost use Rattle.group_servers.specs.GroupKit.{group_kit};
 ghost use Rattle.group_servers.specs.Steps.{StepsBy};
 
@@ -85,7 +85,7 @@ fn tell_delivered(
 }
 
 /// Delivers the first message on the way to a server, if there is one. Answers with the entry that it applied, if it did.
-fn deliver_to(
+pub(crate) fn deliver_to(
     alloc: Global,
     seat: &mut Seat,
     lines: &mut Vec<Seq<u8>>,
@@ -118,7 +118,7 @@ fn deliver_first(
     now: i64,
 ) -> Result<Option<Option<Entry>>, AllocError>
     requires { AllByRecursion CanTake seats.old }
-    ensures { IfOk result (λ found. FirstComes found seats.old seats.new lines.old.items
+    ensures { IfOk result (λ found. FirstComes every found seats.old seats.new lines.old.items
         lines.new.items) }
 {
     match seats.split_first_mut() {
@@ -133,7 +133,7 @@ fn deliver_first(
 
 /// Commits an entry that a server applied, if it is on the way to no other one. Where memory runs out, or the history has 4,000,000,000
 /// entries, the entries stay.
-fn commit_applied(
+pub(crate) fn commit_applied(
     alloc: Global,
     history: &mut History,
     lines: &mut Vec<Seq<u8>>,

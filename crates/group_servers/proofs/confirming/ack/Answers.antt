@@ -1,16 +1,17 @@
 use Rattle.std.proofs.Common.{None, List, refl, sym, ap}
 use Rattle.group_servers.specs.declared.group.Seat.{Seat}
+use Rattle.group_servers.specs.Delivered.{every}
 use Rattle.group_servers.proofs.HearBroken.{untold-breaks}
 use Rattle.group_servers.proofs.SeatTurns.{none-returns}
 use Rattle.group_servers.proofs.ConfirmSteps.{back-stays, can-confirm, ack-happens, acks-none}
 use Rattle.group_servers.proofs.confirming.ack.Goals as goal
 
 pub confirm_last-confirmed-requires : goal.confirm_last-confirmed-requires
-confirm_last-confirmed-requires g c = can-confirm g.row.N c.args.world.now c.in-Some.message c.take_back.new.seats c.requires.state c.in-Some.ensures
+confirm_last-confirmed-requires g c = can-confirm g.row.N every c.args.world.now c.in-Some.message c.take_back.new.seats c.requires.state c.in-Some.ensures
 
 pub returns-in-Ok-clause-ok : goal.returns-in-Ok-clause-ok
 returns-in-Ok-clause-ok g c = λ lines setup state good shows.
-    let done = ack-happens g.row.N setup state c.args.world.now c.confirm_last-confirmed.new.active c.take_back.new.seats c.in-Some.message lines good shows c.in-Some.ensures c.in-Ok.ensures in
+    let done = ack-happens g.row.N every setup state c.args.world.now c.confirm_last-confirmed.new.active c.take_back.new.seats c.in-Some.message lines good shows c.in-Some.ensures c.in-Ok.ensures in
     (done.outcome, done.is, done.happened)
 
 pub returns-in-Err-clause-err : goal.returns-in-Err-clause-err
@@ -20,13 +21,13 @@ returns-in-Err-clause-err g c = λ held setup state good shows. untold-breaks g.
 pub returns-then-not-any_back-clause-ok : goal.returns-then-not-any_back-clause-ok
 returns-then-not-any_back-clause-ok g c = λ lines.
     let old = c.args.world.now in
-    let takes = none-returns old.servers.seats (sym c.if-not-any_back.ensures) in
-    (refl, refl, λ setup state good shows. (acks-none g.row.N setup state old old.servers.seats shows takes).0)
+    let takes = none-returns every old.servers.seats (sym c.if-not-any_back.ensures) in
+    (refl, refl, λ setup state good shows. (acks-none g.row.N every setup state old old.servers.seats shows takes).0)
 
 pub returns-in-None-clause-ok : goal.returns-in-None-clause-ok
 returns-in-None-clause-ok g c = λ lines.
     let old = c.args.world.now in (
-      ap (λ (seats : List Seat). record old { servers = record old.servers { seats = seats } }) (back-stays None old.servers.seats c.take_back.new.seats c.in-None.ensures),
+      ap (λ (seats : List Seat). record old { servers = record old.servers { seats = seats } }) (back-stays every None old.servers.seats c.take_back.new.seats c.in-None.ensures),
       refl,
-      λ setup state good shows. (acks-none g.row.N setup state old c.take_back.new.seats shows c.in-None.ensures).0,
+      λ setup state good shows. (acks-none g.row.N every setup state old c.take_back.new.seats shows c.in-None.ensures).0,
     )

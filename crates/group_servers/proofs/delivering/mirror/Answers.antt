@@ -2,7 +2,7 @@ use Rattle.std.proofs.Common.{Bool, Option, None, List, refl, sym, ap, subst}
 use Rattle.cluster_facts.specs.Types.{Entry}
 use Rattle.group_servers.specs.declared.group.Seat.{Seat}
 use Rattle.lead_server.specs.Told.{Commits}
-use Rattle.group_servers.specs.Delivered.{FirstComes, committed_now}
+use Rattle.group_servers.specs.Delivered.{FirstComes, committed_now, every}
 use Rattle.group_servers.proofs.DeliverSteps.{comes-stays}
 use Rattle.group_servers.proofs.HearBroken.{untold-breaks}
 use Rattle.group_servers.proofs.SeatTurns.{none-goes}
@@ -14,29 +14,29 @@ deliver_first-requires g c = can-take-all g.row.N c.args.world.now c.requires.st
 
 pub returns-in-Ok-clause-ok : goal.returns-in-Ok-clause-ok
 returns-in-Ok-clause-ok g c = λ setup state good shows.
-    let F : Option (Option Entry) → Type 0 = λ found. FirstComes found c.args.world.now.servers.seats c.deliver_first.new.seats c.args.lines.now.items c.deliver_first.new.lines.items in
+    let F : Option (Option Entry) → Type 0 = λ found. FirstComes every found c.args.world.now.servers.seats c.deliver_first.new.seats c.args.lines.now.items c.deliver_first.new.lines.items in
     let comes = subst F c.in-Ok-Some.field-0-is c.in-Ok-Some.ensures in
     let C : Bool → Type 0 = λ goes. Commits (committed_now goes c.in-Ok-Some.committed) c.args.world.now.history.entries c.commit_applied.new.history.entries c.deliver_first.new.lines.items c.commit_applied.new.lines.items in
     let commits = subst C c.any_goes-goes.ensures c.in-Ok.ensures.ok in
-    let done = mirror-happens g.row.N setup state c.args.world.now c.deliver_first.new.seats c.commit_applied.new.history c.in-Ok-Some.committed c.args.lines.now.items c.deliver_first.new.lines.items c.commit_applied.new.lines.items good shows comes commits in
+    let done = mirror-happens g.row.N every setup state c.args.world.now c.deliver_first.new.seats c.commit_applied.new.history c.in-Ok-Some.committed c.args.lines.now.items c.deliver_first.new.lines.items c.commit_applied.new.lines.items good shows comes commits in
     (done.outcome, done.is, done.happened)
 
 -- nothing is on the way
 pub returns-then-not-any_link-clause-ok : goal.returns-then-not-any_link-clause-ok
 returns-then-not-any_link-clause-ok g c =
     let old = c.args.world.now in
-    let comes = none-goes old.servers.seats c.args.lines.now.items (sym c.if-not-any_link.ensures) in
-    (refl, refl, λ setup state good shows. (mirrors-none g.row.N setup state old old.servers.seats c.args.lines.now.items c.args.lines.now.items good shows comes).0)
+    let comes = none-goes every old.servers.seats c.args.lines.now.items (sym c.if-not-any_link.ensures) in
+    (refl, refl, λ setup state good shows. (mirrors-none g.row.N every setup state old old.servers.seats c.args.lines.now.items c.args.lines.now.items good shows comes).0)
 
 pub returns-in-Ok-None-clause-ok : goal.returns-in-Ok-None-clause-ok
 returns-in-Ok-None-clause-ok g c =
     let old = c.args.world.now in
-    let F : Option (Option Entry) → Type 0 = λ found. FirstComes found old.servers.seats c.deliver_first.new.seats c.args.lines.now.items c.deliver_first.new.lines.items in
+    let F : Option (Option Entry) → Type 0 = λ found. FirstComes every found old.servers.seats c.deliver_first.new.seats c.args.lines.now.items c.deliver_first.new.lines.items in
     let comes = subst F c.in-Ok-None.field-0-is c.in-Ok-None.ensures in
-    let stays = comes-stays None old.servers.seats c.deliver_first.new.seats c.args.lines.now.items c.deliver_first.new.lines.items comes in (
+    let stays = comes-stays every None old.servers.seats c.deliver_first.new.seats c.args.lines.now.items c.deliver_first.new.lines.items comes in (
       ap (λ (seats : List Seat). record old { servers = record old.servers { seats = seats } }) stays.0,
       stays.1,
-      λ setup state good shows. (mirrors-none g.row.N setup state old c.deliver_first.new.seats c.args.lines.now.items c.deliver_first.new.lines.items good shows comes).0,
+      λ setup state good shows. (mirrors-none g.row.N every setup state old c.deliver_first.new.seats c.args.lines.now.items c.deliver_first.new.lines.items good shows comes).0,
     )
 
 -- memory ran out
