@@ -175,16 +175,17 @@ def beside(plain, folder, script, lines):
             ratio(memory, small))
 
 
-def compare_rates(what, crate, source, count):
-    """The table of how many things a second a proved program makes, beside a plain one: both are told how many, and print the same line."""
-    made = proved(crate, "1")
+def compare_rates(what, source, count):
+    """The table of how many things of this name a second the proved program makes, beside a plain one: both are told how many, and print the
+    same line."""
+    made = proved("library_bench", what, "1")
     with tempfile.TemporaryDirectory() as folder:
         plain = build(source, folder)
         table("How many", "proved", "plain", "to plain, in time", "half of them, in time")
         least, wanted = answer_time(plain, count)
-        seconds, found = answer_time(made, count)
+        seconds, found = answer_time(made, what, count)
         if found != wanted:
             sys.exit(f"the two make other {what}: {found}, {wanted}")
-        half, _ = answer_time(made, str(int(count) // 2))
+        half, _ = answer_time(made, what, str(int(count) // 2))
         row(f"{int(count):,} {what}", *(f"{int(count) / one:,.0f} a second" for one in (seconds, least)), ratio(seconds, least),
             ratio(half, seconds))

@@ -1,4 +1,4 @@
-//! The records of `record_bench`, printed by plain `format!`: what the proved printer is measured against.
+//! The records of `library_bench`, printed by plain `format!`: what the proved printer is measured against.
 use std::env;
 
 const START: u64 = 1_704_067_200;

@@ -1,4 +1,4 @@
-//! The records of `scan_bench`, printed and read back by plain slices: what the proved reader is measured against.
+//! The records of `library_bench`, printed and read back by plain slices: what the proved reader is measured against.
 //! With a third word the records go to that path too, for `grep`.
 use std::env;
 use std::fs;

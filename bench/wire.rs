@@ -1,4 +1,4 @@
-//! The messages of `wire_bench`, spelled and read by plain Rust: what the proved code is measured against.
+//! The messages of `library_bench`, spelled and read by plain Rust: what the proved code is measured against.
 use std::env;
 
 #[derive(PartialEq)]

@@ -1,7 +1,4 @@
-//! Prints as many records as its word says, by the system stream's default expression at 256 bytes, and tells
-//! how many bytes they have and what their bytes sum to. `bench/records` measures it.
-#![tactic(auto)]
-
+//! Many records are printed by the system stream's default expression at 256 bytes. `bench/records` measures it.
 ghost use Rattle.std.specs.Prelude.{IfOk, IsTrue};
 ghost use Rattle.record_print.specs.Printing.{can_print};
 
@@ -9,9 +6,6 @@ use ais_values::{ClassId, Name, StreamKind, Text};
 use format_expr::{Expr, parse_expr};
 use record_print::{Header, LogRecord, print_record};
 use std::alloc::{AllocError, Global};
-use std::io::ErrorKind;
-use std::rt::Env;
-use std::{env, io};
 
 const EXPRESSION: &[u8] = b"@Cr @Ch:@Cn:@Cs @Cm/@Cd/@CY @Sv @Sl \"@Cb\"";
 
@@ -20,8 +14,8 @@ const START: i64 = 1_704_067_200_000_000_000;
 
 const SECOND: i64 = 1_000_000_000;
 
-// The record of this number.
-fn record_of(alloc: Global, number: u32) -> Result<LogRecord, AllocError>
+/// The record of this number.
+pub fn record_of(alloc: Global, number: u32) -> Result<LogRecord, AllocError>
     ensures { IfOk result (λ made. IsTrue (can_print made)) }
 {
     let Ok(user) = Name::new(alloc, b"safApp=web") else {
@@ -44,7 +38,7 @@ fn record_of(alloc: Global, number: u32) -> Result<LogRecord, AllocError>
 }
 
 // How many bytes the records have, and the sum of their bytes.
-fn print_all(alloc: Global, expr: &Expr, count: u32) -> Result<(u64, u64), AllocError> {
+fn print_each(alloc: Global, expr: &Expr, count: u32) -> Result<(u64, u64), AllocError> {
     let mut bytes = 0u64;
     let mut sum = 0u64;
     for number in 0..count {
@@ -58,26 +52,10 @@ fn print_all(alloc: Global, expr: &Expr, count: u32) -> Result<(u64, u64), Alloc
     Ok((bytes, sum))
 }
 
-// The count that the first word names; 10 where there is none.
-fn count_of<R: Env + AllocGlobal>(rt: &R) -> io::Result<u32> {
-    let mut args = env::args(rt)?;
-    let _ = args.next();
-    match args.next() {
-        None => Ok(10),
-        Some(word) => match word.as_str().parse() {
-            Ok(count) => Ok(count),
-            Err(_) => Err(io::Error::from(ErrorKind::InvalidInput)),
-        },
-    }
-}
-
-fn main(rt: HostRuntime) -> io::Result<()> {
-    let count = count_of(&rt)?;
-    match parse_expr(rt.alloc(), StreamKind::System, EXPRESSION) {
-        Ok(expr) => {
-            let (bytes, sum) = print_all(rt.alloc(), &expr, count)?;
-            println!(rt; "records={count} bytes={bytes} sum={sum}")
-        }
-        Err(_) => Err(io::Error::from(ErrorKind::OutOfMemory)),
+/// How many bytes the records of these numbers have, and the sum of their bytes.
+pub fn print_all(alloc: Global, count: u32) -> Result<(u64, u64), AllocError> {
+    match parse_expr(alloc, StreamKind::System, EXPRESSION) {
+        Ok(expr) => print_each(alloc, &expr, count),
+        Err(_) => Err(AllocError),
     }
 }

@@ -1,8 +1,5 @@
-//! Spells and reads again as many messages as its word says, a mixed list of requests with writes of 100 bytes,
-//! replies, and items with alarms, and tells how many bytes they have and what their bytes sum to. `bench/wire`
-//! measures it.
-#![tactic(auto)]
-
+//! Many messages are spelled and read again: a mixed list of requests with writes of 100 bytes, replies, and items with alarms.
+//! `bench/wire` measures it.
 ghost use Rattle.std.specs.Prelude.{IfOk};
 ghost use Rattle.wire.specs.MessageSpelling.{MessageInRange};
 
@@ -11,9 +8,8 @@ use calls::{Boxed, Call, Reply};
 use ntf_types::{Body, Notification};
 use record_print::Header;
 use std::alloc::{AllocError, Global};
+use std::io;
 use std::io::ErrorKind;
-use std::rt::Env;
-use std::{env, io};
 use stream_config::StreamName;
 use sub_queue::{Content, Item};
 use wire::{Message, decode, encode};
@@ -135,8 +131,8 @@ fn spelling_at(alloc: Global, number: u32) -> io::Result<Vec<u8>> {
     bytes
 }
 
-// How many bytes the messages have, and the sum of their bytes.
-fn spell_all(alloc: Global, count: u32) -> io::Result<(u64, u64)> {
+/// How many bytes the messages of these numbers have, and the sum of their bytes.
+pub fn spell_all(alloc: Global, count: u32) -> io::Result<(u64, u64)> {
     let mut length = 0u64;
     let mut sum = 0u64;
     for number in 0..count {
@@ -147,23 +143,4 @@ fn spell_all(alloc: Global, count: u32) -> io::Result<(u64, u64)> {
         }
     }
     Ok((length, sum))
-}
-
-// The count that the first word names; 10 where there is none.
-fn count_of<R: Env + AllocGlobal>(rt: &R) -> io::Result<u32> {
-    let mut args = env::args(rt)?;
-    let _ = args.next();
-    match args.next() {
-        None => Ok(10),
-        Some(word) => match word.as_str().parse() {
-            Ok(count) => Ok(count),
-            Err(_) => Err(io::Error::from(ErrorKind::InvalidInput)),
-        },
-    }
-}
-
-fn main(rt: HostRuntime) -> io::Result<()> {
-    let count = count_of(&rt)?;
-    let (bytes, sum) = spell_all(rt.alloc(), count)?;
-    println!(rt; "messages={count} bytes={bytes} sum={sum}")
 }

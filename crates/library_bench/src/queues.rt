@@ -1,18 +1,12 @@
-//! Feeds a queue and hands all out by workers, as often as its third word says: the first word is the number of
-//! callbacks, the second that of workers. It tells how many were handed out, and what their numbers sum to.
-//! `bench/dispatch` measures it.
-#![tactic(auto)]
-
+//! A queue of callbacks is filled and emptied by workers, many times. `bench/dispatch` measures it.
 ghost use Rattle.std.specs.Prelude.{◌≡◌, ◌+◌, ◌^◌, ◌≤◌, length};
 
 use ais_values::{Seq, Status};
 use callback_dispatch::{CallbackQueue, Feeder, Numbered, OpenGate, Taker};
 use calls::Callback;
 use std::alloc::{AllocError, Global};
-use std::io::ErrorKind;
 use std::sync::Wait;
 use std::thread::Threads;
-use std::{env, io};
 
 // Feeds so many callbacks, and tells whether all had a place.
 fn feed_all<R: Wait>(rt: &R, queue: &CallbackQueue, feeder: &mut Feeder, count: u32) -> bool
@@ -66,8 +60,8 @@ fn round<R: Threads + Wait + Sync>(
     }
 }
 
-// All rounds: how many were handed out, and the sum of their numbers.
-fn rounds<R: Threads + Wait + Sync>(
+/// How many callbacks are handed out in so many rounds, and the sum of their numbers.
+pub fn hand_out<R: Threads + Wait + Sync>(
     rt: &R,
     alloc: Global,
     callbacks: u32,
@@ -85,28 +79,4 @@ fn rounds<R: Threads + Wait + Sync>(
         sum = sum.wrapping_add(part);
     }
     Ok((all, sum))
-}
-
-// The number that a word names.
-fn number_of(word: Option<String>) -> io::Result<u32> {
-    let Some(word) = word else {
-        return Err(io::Error::from(ErrorKind::InvalidInput));
-    };
-    match word.as_str().parse() {
-        Ok(number) => Ok(number),
-        Err(_) => Err(io::Error::from(ErrorKind::InvalidInput)),
-    }
-}
-
-fn main(rt: HostRuntime) -> io::Result<()> {
-    let mut args = env::args(&rt)?;
-    let _ = args.next();
-    let callbacks = number_of(args.next())?;
-    let workers = number_of(args.next())?;
-    let count = number_of(args.next())?;
-    if callbacks == 0 || workers == 0 || workers > 8 {
-        return Err(io::Error::from(ErrorKind::InvalidInput));
-    }
-    let (all, sum) = rounds(&rt, rt.alloc(), callbacks, workers, count)?;
-    println!(rt; "handed_out={all} sum={sum}")
 }
