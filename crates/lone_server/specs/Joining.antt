@@ -58,9 +58,10 @@ abbrev pub KeepsOrNot : {T : Type 0} → Result T DiskAnswer → List Message �
 KeepsOrNot (Ok done) link past entries = FirstOrNot link past entries
 KeepsOrNot (Err answer) link past entries = entries ≡ past
 
--- what is left where it broke off, by the answer: where the journal's disk stopped or had a fault the server is down, which is told
+-- what is left where it broke off, by the answer: where the journal's disk stopped or had a fault the server is down, which is told; where
+-- memory ran out it is armed as it was
 abbrev pub JoinBreaks : DiskAnswer → Lone → Lone → List Entry → List Entry → List (List ℕ) → List (List ℕ) → Type 0
-JoinBreaks Memory old new past entries before after = Unit {0}
+JoinBreaks Memory old new past entries before after = new.armed ≡ old.armed
 JoinBreaks _ old new past entries before after =
     (new ≡ downed old) × (entries ≡ past) × (after ≡ before ++ server_line A Down ∷ [])
 

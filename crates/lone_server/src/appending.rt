@@ -80,7 +80,8 @@ fn one(alloc: Global, message: Message) -> Result<Seq<Message>, AllocError>
 
 /// That the entry of this number is in the journal is on the way back.
 pub fn put_back(alloc: Global, servers: &mut Lone, number: u64) -> Result<(), AllocError>
-    ensures { OnOk result (servers.new ≡ confirmed_by number servers.old) }
+    ensures ok { OnOk result (servers.new ≡ confirmed_by number servers.old) }
+    ensures armed { servers.new.armed ≡ servers.old.armed }
 {
     match one(alloc, Message::MirrorAck { number }) {
         Ok(messages) => send_all(alloc, &mut servers.back, messages),

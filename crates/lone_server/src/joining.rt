@@ -40,6 +40,7 @@ fn commit_one(
         history.old.entries history.new.entries lines.old.items lines.new.items) }
     ensures err { OnErr result (CommitsOrNot (Some (number, entry)) history.old.entries
         history.new.entries) }
+    ensures armed { servers.new.armed ≡ servers.old.armed }
 {
     match history.reserve() {
         Ok(()) => {}
@@ -66,6 +67,7 @@ fn commit_joined(
         history.old.entries history.new.entries lines.old.items lines.new.items) }
     ensures err { OnErr result (CommitsOrNot (entry_in message) history.old.entries
         history.new.entries) }
+    ensures armed { servers.new.armed ≡ servers.old.armed }
 {
     match mirrored(message) {
         Some((number, entry)) => commit_one(alloc, servers, history, lines, number, entry),

@@ -79,7 +79,8 @@ pub fn work_entry<D: SharedDisk, J: SharedDisk>(
 /// entries were accepted it answers as if memory ran out.
 pub fn hear_back(alloc: Global, servers: &mut Lone, now: i64) -> Result<bool, AllocError>
     requires { CanHearAll servers.old.node servers.old.back }
-    ensures { IfOk result (λ heard. HearsBack heard servers.old servers.new) }
+    ensures ok { IfOk result (λ heard. HearsBack heard servers.old servers.new) }
+    ensures armed { servers.new.armed ≡ servers.old.armed }
 {
     let message = match take_first(alloc, &mut servers.back) {
         Some(message) => message,

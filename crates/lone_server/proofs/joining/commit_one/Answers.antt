@@ -13,7 +13,7 @@ pub returns-in-Ok-commit-clause-ok : goal.returns-in-Ok-commit-clause-ok
 returns-in-Ok-commit-clause-ok c =
     on_ok_weaker c.put_back.result
     (λ is. commits-one c.args.number c.args.entry c.args.servers.now c.put_back.new.servers c.args.history.now.entries c.reserve.new.self.entries c.commit.new.history.entries c.args.lines.now.items c.commit.new.lines.items c.in-Ok.ensures.entries c.in-Ok-commit.ensures.ok is)
-    c.put_back.ensures
+    c.put_back.ensures.ok
 
 -- it is committed
 pub returns-in-Ok-commit-clause-err : goal.returns-in-Ok-commit-clause-err
@@ -24,3 +24,6 @@ returns-in-Ok-commit-clause-err c =
 pub returns-in-Err-commit-clause-err : goal.returns-in-Err-commit-clause-err
 returns-in-Err-commit-clause-err c =
     inl (ap (λ (history : Pushed). history.entries) c.in-Err-commit.ensures.err ∙ c.in-Ok.ensures.entries)
+
+pub returns-in-Ok-commit-clause-armed : goal.returns-in-Ok-commit-clause-armed
+returns-in-Ok-commit-clause-armed c = c.put_back.ensures.armed

@@ -6,13 +6,13 @@ use Rattle.lone_server.proofs.working.hear_back.Goals as goal
 pub confirm-requires : goal.confirm-requires
 confirm-requires c = (subst (λ (messages : List Message). CanHearAll c.args.servers.now.node messages) c.in-Some.ensures c.requires).0
 
-pub returns-in-None : goal.returns-in-None
-returns-in-None c =
+pub returns-in-None-clause-ok : goal.returns-in-None-clause-ok
+returns-in-None-clause-ok c =
     let none = c.in-None.ensures in
     (none.0, ap (λ (back : List Message). record c.args.servers.now { back = back }) (none.1 ∙ sym none.0))
 
-pub returns-in-Ok : goal.returns-in-Ok
-returns-in-Ok c = record {
+pub returns-in-Ok-clause-ok : goal.returns-in-Ok-clause-ok
+returns-in-Ok-clause-ok c = record {
   message = c.in-Some.message;
   rest = c.take_first.new.list;
   first = c.in-Some.ensures;
