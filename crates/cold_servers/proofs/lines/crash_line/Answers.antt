@@ -1,0 +1,41 @@
+use Rattle.std.proofs.Common.{◌≡◌, false, ap, refl, sym, subst, ◌∙◌}
+use Rattle.std.proofs.lemmas.Result.{on_err_weaker}
+use Rattle.script_lines.specs.declared.line.Line.{Line}
+use Rattle.script_lines.specs.declared.line.Line.TheVariants.{Crash}
+use Rattle.cluster_lines.specs.Lines.{shows_files}
+use Rattle.cluster_lines.specs.Own.{PlaysLine}
+use Rattle.cold_servers.specs.ColdKit.{cold_kit, cold_script}
+use Rattle.cold_servers.specs.ColdSeen.{ColdSeen}
+use Rattle.cold_servers.specs.Steps.{IsRefusedUp}
+use Rattle.cold_servers.proofs.OwnLines.{crash-line}
+use Rattle.cold_servers.proofs.lines.crash_line.Goals as goal
+
+pub returns-in-A : goal.returns-in-A
+returns-in-A g c =
+    let old = c.args.world.now in
+    let held : ColdSeen = cold_kit.see (g.D.SharedDisk.seen c.args.disk.now) (g.J.SharedDisk.seen c.args.beside.now) in
+    let left : ColdSeen = cold_kit.see (g.D.SharedDisk.seen c.crash.new.disk) (g.J.SharedDisk.seen c.crash.new.beside) in
+    let line = crash-line c.crash.result c.as_answer.result old c.crash.new.world c.args.lines.now.items c.crash.new.lines.items held left c.as_answer.ensures c.requires.state c.requires.up c.crash.ensures.ok
+    (on_err_weaker c.crash.result (λ kept. (kept.0, λ i. record { disk = kept.2 i; journal = kept.3 i })) c.crash.ensures.err)
+    in
+    subst (λ (next : Line). PlaysLine cold_kit cold_script c.as_answer.result next old c.crash.new.world c.args.lines.now.items c.crash.new.lines.items held left) (sym (c.requires.line ∙ ap Crash c.in-A.is)) line
+
+pub refuse_line-requires : goal.refuse_line-requires
+refuse_line-requires g c =
+    let is = sym (c.requires.line ∙ ap Crash c.in-B.is) in
+    record {
+      state = c.requires.state;
+      up = c.requires.up;
+      shown = subst (λ (next : Line). shows_files next ≡ false) is refl;
+      refused = subst (λ (next : Line). IsRefusedUp next c.args.world.now) is (λ setup state good shows shelf device. refl);
+    }
+
+pub refuse_line-requires-in-C : goal.refuse_line-requires-in-C
+refuse_line-requires-in-C g c =
+    let is = sym (c.requires.line ∙ ap Crash c.in-C.is) in
+    record {
+      state = c.requires.state;
+      up = c.requires.up;
+      shown = subst (λ (next : Line). shows_files next ≡ false) is refl;
+      refused = subst (λ (next : Line). IsRefusedUp next c.args.world.now) is (λ setup state good shows shelf device. refl);
+    }

@@ -1,0 +1,10 @@
+pub mod ColdNodes
+pub mod ColdSeen
+pub mod ColdCounts
+pub mod ColdKit
+pub mod RestLaws
+pub mod CountLaws
+pub mod ColdLaws
+pub mod ColdScript
+pub mod Standing
+pub mod Steps
