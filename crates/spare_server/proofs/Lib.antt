@@ -1,0 +1,6 @@
+mod ThreeSeats
+mod EventSteps
+mod LineSteps
+mod OwnSteps
+mod StandbySteps
+mod BeginSteps

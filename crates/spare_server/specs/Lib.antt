@@ -1,0 +1,10 @@
+pub mod Worlds
+pub mod Happening
+pub mod Playing
+pub mod Ended
+pub mod Standbys
+pub mod Parts
+pub mod Lines
+pub mod Starting
+pub mod Game
+pub mod GameLaws
