@@ -1,0 +1,2 @@
+mod FallLaws
+mod ScriptSteps
