@@ -1,7 +1,9 @@
 mod AckState
 mod AdvanceSteps
 mod ArmSteps
+mod BackState
 mod CountSteps
+mod DownSteps
 mod HearState
 mod LeadState
 mod JoinFalls
@@ -13,6 +15,7 @@ mod OwnLines
 mod OwnSteps
 mod RangeSteps
 mod RestState
+mod RestartSteps
 mod StandingSteps
 mod WorkFalls
 mod WorkState

@@ -7,4 +7,6 @@ pub mod CountLaws
 pub mod ColdLaws
 pub mod ColdScript
 pub mod Standing
+pub mod Down
+pub mod Ignoring
 pub mod Steps
