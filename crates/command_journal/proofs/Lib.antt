@@ -1,0 +1,3 @@
+pub mod BeginSpelled
+pub mod BeginSteps
+pub mod EventSteps

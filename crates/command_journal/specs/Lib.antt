@@ -1,0 +1,5 @@
+pub mod Worlds
+pub mod Beginning
+pub mod Playing
+pub mod Parts
+pub mod Starting
