@@ -1,28 +1,16 @@
 -- The start of a server and its journal.
-use Rattle.std.proofs.Common.{◌≡◌, ◌⊎◌, ℕ, suc, ◌+◌, ◌≤◌, false, List, [], ◌∷◌, length, Option, Some, None, refl, ap, sym, subst, ◌∙◌, inl, inr, append-nil, le_refl, arith}
-use Rattle.std.specs.Prelude.{option_map, Ok, Err}
-use Rattle.ais_values.specs.Causes.{RoseExactlyOn}
+use Rattle.std.proofs.Common.{◌≡◌, ℕ, ◌+◌, false, List, [], ◌∷◌, length, Option, Some, None, refl, ap, sym, subst, ◌∙◌, inl, inr, append-nil, arith}
+use Rattle.std.specs.Prelude.{option_map, Ok}
 use Rattle.disk_model.specs.Disk.{Files}
-use Rattle.disk_model.specs.Failures.{WhereTold}
-use Rattle.disk_model.specs.Seen.{DiskSeen}
-use Rattle.disk_model.specs.Counts.{lowered, passed, reaches}
-use Rattle.disk_model.specs.DeviceCalls.{DeviceCall, all_applied, DoesFront, FailsAfter, LacksMemoryAfter, Breaks, Performs}
-use Rattle.disk_model.specs.declared.answers.DiskAnswer.{DiskAnswer}
-use Rattle.disk_model.specs.declared.answers.DiskAnswer.TheVariants.{Memory, Failed, Stopped}
+use Rattle.disk_model.specs.Counts.{lowered, passed}
+use Rattle.disk_model.specs.DeviceCalls.{DeviceCall, all_applied, Performs}
 use Rattle.disk_model.specs.declared.tally.Tally.{Tally}
 use Rattle.stream_layout.specs.Deeds.{calls_of_all}
 use Rattle.stream_layout.specs.declared.deed.Deed.{Deed}
 use Rattle.wire.specs.declared.message.Message.{Message}
-use Rattle.wire.specs.declared.message.Message.TheVariants.{Snapshot}
 use Rattle.wire.specs.MessageSpelling.{MessageInRange, message_text}
 use Rattle.wire.specs.SavedSpelling.{SavedReaderInRange, SavedSubInRange, SavedWindowInRange}
-use Rattle.calls.specs.declared.saved.Saved.{Saved}
-use Rattle.plain_service.specs.Values.{StandsFor, saved_of}
-use Rattle.mirror.specs.declared.heard.Role.TheVariants.{Active}
-use Rattle.mirror.specs.declared.state.NodeState.{NodeState as Node}
-use Rattle.mirror.specs.Pairing.{alone}
-use Rattle.mirror.specs.Replicas.{started}
-use Rattle.lone_server.specs.Restarting.{linked}
+use Rattle.plain_service.specs.Values.{saved_of}
 use Rattle.std.proofs.lemmas.List.Elements.{All-nil}
 use Rattle.plain_service.specs.Setups.{Setup, CanBegin}
 use Rattle.plain_service.specs.Storing.{files_of, opening_of}
@@ -35,18 +23,14 @@ use Rattle.journal_found.specs.Found.{CanJoin, JournalOf}
 use Rattle.journal_found.proofs.Chains.{journal-made}
 use Rattle.journal_start.specs.declared.journal.Journal.{Journal}
 use Rattle.journal_start.specs.Journals.{PerformsOrLacks, made_of}
-use Rattle.played_runs.specs.Views.{FailedDeeds, HoldsNone, LackedDeeds, behind_deeds, counters_of}
-use Rattle.played_runs.proofs.CountSteps.{other-stood}
+use Rattle.played_runs.specs.Views.{HoldsNone}
 use Rattle.group_cluster.specs.Seats.{Clear}
 use Rattle.cold_cluster.proofs.Coming.{start-steady}
 use Rattle.cold_servers.specs.ColdNodes.{active_by, journal_by}
-use Rattle.cold_servers.specs.ColdSeen.{ColdSeen, LeavesTold, Outlives}
-use Rattle.command_journal.specs.declared.answer.EventAnswer.{EventAnswer}
+use Rattle.cold_servers.specs.ColdSeen.{ColdSeen, LeavesTold}
 use Rattle.command_journal.specs.declared.world.ColdWorld.{ColdWorld}
-use Rattle.command_journal.specs.declared.answer.EventAnswer.TheVariants as told
-use Rattle.command_journal.specs.Beginning.{Begun, LeavesStart, calls_of_make, start_of}
-use Rattle.command_journal.specs.Playing.{RisesInEvent}
-use Rattle.command_journal.specs.Starting.{Starts, broken_by, first_message, world_of}
+use Rattle.command_journal.specs.Beginning.{Begun, calls_of_make, start_of}
+use Rattle.command_journal.specs.Starting.{first_message, world_of}
 use Rattle.command_journal.specs.Worlds.{IsGood, Shows}
 
 -- The world.
@@ -74,14 +58,6 @@ shows-start setup places = record {
   history = refl;
   now = refl;
   callbacks = refl;
-}
-
--- the server of a service
-pub starts : (setup : Setup) (service saved : Saved) (node : Node) (deeds : List Deed) → StandsFor setup [] service → deeds ≡ opening_of setup → saved ≡ service → node ≡ linked (alone (started Active service)) → Starts setup node (Snapshot saved) deeds
-starts setup service saved node deeds stands are same is = record {
-  node = is ∙ ap (λ (s : Saved). linked (alone (started Active s))) stands;
-  snapshot = ap Snapshot (same ∙ stands);
-  deeds = are;
 }
 
 -- its value can be spelled
@@ -141,149 +117,3 @@ begun setup places deeds text held left world snapshot made begins is first are 
         journal = journal-start setup held.journal.files left.journal.files (subst CanJoin first can) kept.0;
       };
     }
-
--- What the disks counted.
-
-counters-as : (held left : DiskSeen) (tally : Tally) → left.faults ≡ held.faults → left.stops ≡ held.stops → left.tally ≡ tally → counters_of left ≡ record { faults = held.faults; stops = held.stops; tally = tally }
-counters-as held left tally faults stops counted = λ i. record { faults = faults i; stops = stops i; tally = counted i }
-
-deeds-counted : (setup : Setup) (deeds : List Deed) (held left : DiskSeen) → deeds ≡ opening_of setup → left.tally ≡ passed (length (calls_of_all deeds)) held.tally → left.faults ≡ held.faults → left.stops ≡ held.stops → counters_of left ≡ behind_deeds setup (counters_of held)
-deeds-counted setup deeds held left are counted faults stops =
-    counters-as held left (passed (length (calls_of_all (opening_of setup))) held.tally) faults stops
-    (counted ∙ ap (λ (d : List Deed). passed (length (calls_of_all d)) held.tally) are)
-
-pub begun-counts : (setup : Setup) (deeds : List Deed) (snapshot : Message) (held left : ColdSeen) → deeds ≡ opening_of setup → snapshot ≡ first_message setup → left.disk.tally ≡ passed (length (calls_of_all deeds)) held.disk.tally → left.disk.faults ≡ held.disk.faults → left.disk.stops ≡ held.disk.stops → left.journal.tally ≡ passed (length (make_calls (behind_gate (message_text snapshot)))) held.journal.tally → left.journal.faults ≡ held.journal.faults → left.journal.stops ≡ held.journal.stops → LeavesStart {T = Unit {0}} setup held left (Ok tt)
-begun-counts setup deeds snapshot held left are first counted faults stops made made_faults made_stops = (
-  deeds-counted setup deeds held.disk left.disk are counted faults stops,
-  counters-as held.journal left.journal (passed (length (calls_of_make setup)) held.journal.tally) made_faults made_stops
-      (made ∙ ap (λ (m : Message). passed (length (make_calls (behind_gate (message_text m)))) held.journal.tally) first),
-)
-
--- The start was not done.
-
-front-stands : (done : List DeviceCall) (old new : Option Files) → WhereTold (λ before after. after ≡ all_applied done before) old new → new ≡ option_map (all_applied done) old
-front-stands done None None told = refl
-front-stands done None (Some new) told = absurd told
-front-stands done (Some old) None told = absurd told
-front-stands done (Some old) (Some new) told = ap Some told
-
--- before the deeds nothing was asked of the disks
-pub unbegun : (setup : Setup) (held : ColdSeen) → held.disk.tally.armed ≡ None → LeavesStart {T = Unit {0}} setup held held (Err told.Memory)
-unbegun setup held unarmed = inl (
-  record {
-    front = record { done = []; undone = calls_of_all (opening_of setup); in_order = refl; stands = same held.disk.files };
-    calls = inl refl;
-    faults = refl;
-    stops = refl;
-    armed = unarmed;
-  },
-  refl,
-)
-  where
-    same : (files : Option Files) → files ≡ option_map (all_applied []) files
-    same None = refl
-    same (Some one) = refl
-
-deeds-by : (setup : Setup) (answer : DiskAnswer) (calls : List DeviceCall) (held left : ColdSeen) → calls ≡ calls_of_all (opening_of setup) → left.journal ≡ held.journal → held.disk.tally.armed ≡ None → RoseExactlyOn {T = Unit {0}} held.disk.faults left.disk.faults (Err answer) Failed → RoseExactlyOn {T = Unit {0}} held.disk.stops left.disk.stops (Err answer) Stopped → Breaks answer calls held.disk.files left.disk.files held.disk.tally left.disk.tally → LeavesStart {T = Unit {0}} setup held left (Err (broken_by answer))
-deeds-by setup Memory calls held left are alone unarmed cause stop broke = inl (
-  record {
-    front =
-        subst (λ cs. DoesFront cs held.disk.files left.disk.files) are
-        (record { done = broke.1.done; undone = broke.1.broken ∷ broke.1.undone; in_order = broke.1.in_order; stands = front-stands broke.1.done held.disk.files left.disk.files broke.1.left });
-    calls = inr (broke.0, subst (λ cs. LacksMemoryAfter cs broke.0 held.disk.files left.disk.files) are broke.1, broke.2.1);
-    faults = other-stood held.disk.faults left.disk.faults Memory Failed Memory cause refl (λ is. cc);
-    stops = other-stood held.disk.stops left.disk.stops Memory Stopped Memory stop refl (λ is. cc);
-    armed = ap (λ (t : Tally). t.armed) broke.2.1 ∙ ap (lowered broke.0) unarmed;
-  },
-  alone,
-)
-deeds-by setup Failed calls held left are alone unarmed cause stop broke = (
-  refl,
-  inl (
-    record {
-      count = broke.0;
-      fails = subst (λ cs. FailsAfter cs broke.0 held.disk.files left.disk.files) are broke.1;
-      tally = broke.2.1;
-      stops = other-stood held.disk.stops left.disk.stops Failed Stopped Failed stop refl (λ is. cc);
-    },
-    alone,
-  ),
-)
-deeds-by setup Stopped calls held left are alone unarmed cause stop broke =
-    let none : reaches (suc broke.0) held.disk.tally.armed ≡ false = ap (reaches (suc broke.0)) unarmed in absurd (cc (none, broke.2.1))
-
-pub deeds-broke : (setup : Setup) (answer : DiskAnswer) (told : EventAnswer) (deeds : List Deed) (held left : ColdSeen) → deeds ≡ opening_of setup → told ≡ broken_by answer → left.journal ≡ held.journal → held.disk.tally.armed ≡ None → RoseExactlyOn {T = Unit {0}} held.disk.faults left.disk.faults (Err answer) Failed → RoseExactlyOn {T = Unit {0}} held.disk.stops left.disk.stops (Err answer) Stopped → Breaks answer (calls_of_all deeds) held.disk.files left.disk.files held.disk.tally left.disk.tally → LeavesStart {T = Unit {0}} setup held left (Err told)
-deeds-broke setup answer told deeds held left are told_is alone unarmed cause stop broke =
-    subst (λ t. LeavesStart {T = Unit {0}} setup held left (Err t)) (sym told_is)
-    (deeds-by setup answer (calls_of_all deeds) held left (ap calls_of_all are) alone unarmed cause stop broke)
-
-make-by : (setup : Setup) (answer : DiskAnswer) (calls : List DeviceCall) (held left : ColdSeen) → calls ≡ calls_of_make setup → counters_of left.disk ≡ behind_deeds setup (counters_of held.disk) → held.journal.tally.armed ≡ None → RoseExactlyOn {T = Journal} held.journal.faults left.journal.faults (Err answer) Failed → RoseExactlyOn {T = Journal} held.journal.stops left.journal.stops (Err answer) Stopped → PerformsOrLacks {T = Journal} calls (Err answer) held.journal.files left.journal.files held.journal.tally left.journal.tally → LeavesStart {T = Unit {0}} setup held left (Err (broken_by answer))
-make-by setup Memory calls held left are deeds unarmed cause stop broke = inr (
-  deeds,
-  record {
-    faults = other-stood held.journal.faults left.journal.faults Memory Failed Memory cause refl (λ is. cc);
-    stops = other-stood held.journal.stops left.journal.stops Memory Stopped Memory stop refl (λ is. cc);
-    armed = elim broke [
-      | inl none ↦ ap (λ (t : Tally). t.armed) none.2
-      | inr some ↦ ap (λ (t : Tally). t.armed) some.2.1 ∙ ap (lowered some.0) unarmed ∙ sym unarmed
-    ];
-  },
-)
-make-by setup Failed calls held left are deeds unarmed cause stop (inl none) = cc
-make-by setup Failed calls held left are deeds unarmed cause stop (inr some) = (
-  refl,
-  inr (
-    deeds,
-    record {
-      count = some.0;
-      fails = subst (λ cs. FailsAfter cs some.0 held.journal.files left.journal.files) are some.1;
-      tally = some.2.1;
-      stops = other-stood held.journal.stops left.journal.stops Failed Stopped Failed stop refl (λ is. cc);
-    },
-  ),
-)
-make-by setup Stopped calls held left are deeds unarmed cause stop (inl none) = cc
-make-by setup Stopped calls held left are deeds unarmed cause stop (inr some) =
-    let none : reaches (suc some.0) held.journal.tally.armed ≡ false = ap (reaches (suc some.0)) unarmed in absurd (cc (none, some.2.1))
-
-pub make-broke : (setup : Setup) (answer : DiskAnswer) (told : EventAnswer) (deeds : List Deed) (snapshot : Message) (held left : ColdSeen) → deeds ≡ opening_of setup → snapshot ≡ first_message setup → told ≡ broken_by answer → left.disk.tally ≡ passed (length (calls_of_all deeds)) held.disk.tally → left.disk.faults ≡ held.disk.faults → left.disk.stops ≡ held.disk.stops → held.journal.tally.armed ≡ None → RoseExactlyOn {T = Journal} held.journal.faults left.journal.faults (Err answer) Failed → RoseExactlyOn {T = Journal} held.journal.stops left.journal.stops (Err answer) Stopped → PerformsOrLacks {T = Journal} (make_calls (behind_gate (message_text snapshot))) (Err answer) held.journal.files left.journal.files held.journal.tally left.journal.tally → LeavesStart {T = Unit {0}} setup held left (Err told)
-make-broke setup answer told deeds snapshot held left are first told_is counted faults stops unarmed cause stop broke =
-    subst (λ t. LeavesStart {T = Unit {0}} setup held left (Err t)) (sym told_is)
-    (make-by setup answer (make_calls (behind_gate (message_text snapshot))) held left
-    (ap (λ (m : Message). make_calls (behind_gate (message_text m))) first)
-    (deeds-counted setup deeds held.disk left.disk are counted faults stops) unarmed cause stop broke)
-
--- Which counts of faults rose.
-
-stood-later : (one two : ℕ) → two ≡ one → one ≤ two
-stood-later one two same = subst (λ (n : ℕ). one ≤ n) (sym same) (le_refl one)
-
-pub deeds-rise : (answer : DiskAnswer) (told : EventAnswer) (held left : ColdSeen) → told ≡ broken_by answer → left.journal ≡ held.journal → RoseExactlyOn {T = Unit {0}} held.disk.faults left.disk.faults (Err answer) Failed → RisesInEvent {T = Unit {0}} held left (Err told)
-deeds-rise answer told held left told_is alone cause =
-    subst (λ t. RisesInEvent {T = Unit {0}} held left (Err t)) (sym told_is) (by answer cause)
-  where
-    journal : held.journal.faults ≤ left.journal.faults
-    journal = stood-later held.journal.faults left.journal.faults (ap (λ (d : DiskSeen). d.faults) alone)
-
-    by : (a : DiskAnswer) → RoseExactlyOn {T = Unit {0}} held.disk.faults left.disk.faults (Err a) Failed → RisesInEvent {T = Unit {0}} held left (Err (broken_by a))
-    by Memory cause = record { disk = cause.later; journal = journal }
-    by Failed cause = record { later = record { disk = cause.later; journal = journal }; rose = inl (cause.rose refl) }
-    by Stopped cause = record { disk = cause.later; journal = journal }
-
-pub make-rises : (answer : DiskAnswer) (told : EventAnswer) (held left : ColdSeen) → told ≡ broken_by answer → left.disk.faults ≡ held.disk.faults → RoseExactlyOn {T = Journal} held.journal.faults left.journal.faults (Err answer) Failed → RisesInEvent {T = Unit {0}} held left (Err told)
-make-rises answer told held left told_is stood cause =
-    subst (λ t. RisesInEvent {T = Unit {0}} held left (Err t)) (sym told_is) (by answer cause)
-  where
-    disk : held.disk.faults ≤ left.disk.faults
-    disk = stood-later held.disk.faults left.disk.faults stood
-
-    by : (a : DiskAnswer) → RoseExactlyOn {T = Journal} held.journal.faults left.journal.faults (Err a) Failed → RisesInEvent {T = Unit {0}} held left (Err (broken_by a))
-    by Memory cause = record { disk = disk; journal = cause.later }
-    by Failed cause = record { later = record { disk = disk; journal = cause.later }; rose = inr (cause.rose refl) }
-    by Stopped cause = record { disk = disk; journal = cause.later }
-
-pub both-stood : (held left : ColdSeen) → left.disk.faults ≡ held.disk.faults → left.journal.faults ≡ held.journal.faults → Outlives held left
-both-stood held left disk journal = record {
-  disk = stood-later held.disk.faults left.disk.faults disk;
-  journal = stood-later held.journal.faults left.journal.faults journal;
-}

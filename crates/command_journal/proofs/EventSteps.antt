@@ -1,6 +1,6 @@
 -- What a line does to a server and its journal, by those that play it.
 use Rattle.std.proofs.Common.{◌≡◌, ◌⊎◌, inl, inr, ℕ, Bool, true, false, Option, Some, None, List, [], refl, ap, sym, ◌∙◌, subst}
-use Rattle.std.specs.Prelude.{ℤ, IfSome, IsSome, IfErr, OnOk, Result, Ok, Err}
+use Rattle.std.specs.Prelude.{IfSome, IsSome, IfErr, OnOk, Result, Ok, Err}
 use Rattle.std.specs.Result.{is_ok}
 use Rattle.disk_model.specs.Disk.{Files}
 use Rattle.disk_model.specs.declared.answers.DiskAnswer.{DiskAnswer}
@@ -18,9 +18,9 @@ use Rattle.cluster_rounds.specs.declared.cluster.Cluster.{Cluster}
 use Rattle.cluster_rounds.specs.Broken.{Broken}
 use Rattle.cluster_rounds.specs.Counted.{Counted}
 use Rattle.cluster_rounds.specs.Kits.{device_by}
-use Rattle.cluster_rounds.specs.Wild.{HasWild, StandsOn, always}
+use Rattle.cluster_rounds.specs.Wild.{StandsOn, always}
 use Rattle.cluster_rounds.specs.Worlds.{HasStateOn, IsGood, Shows, any_state}
-use Rattle.cluster_lines.specs.Lines.{CanPlay, shows_files}
+use Rattle.cluster_lines.specs.Lines.{shows_files}
 use Rattle.cluster_lines.specs.Playing.{BreaksOff, FaultLeaves, LineEnded, LooksBy, Played, Plays, SharesIn}
 use Rattle.cluster_lines.specs.Shelves.{shelf_at, shelf_of}
 use Rattle.journal_start.specs.declared.cold.ColdAnswer.{ColdAnswer}
@@ -31,14 +31,14 @@ use Rattle.cold_cluster.specs.Lines.{ColdHappens, HappensBy, alone}
 use Rattle.cold_servers.specs.declared.solo.Solo.{Solo}
 use Rattle.cold_servers.specs.ColdKit.{SharesCold, cold_kit, cold_script}
 use Rattle.cold_servers.specs.ColdLaws.{cold_laws}
-use Rattle.cold_servers.specs.ColdSeen.{ArmsBoth, ColdSeen, HoldsFiles, TellsBoth}
+use Rattle.cold_servers.specs.ColdSeen.{ColdSeen, HoldsFiles, TellsBoth}
 use Rattle.cold_servers.specs.Down.{CountsStart, IsDownLine, PlayedDown, PlaysDown, PlaysRestart, RestartBreaks, RestartLeaves}
-use Rattle.cold_servers.specs.Steps.{AreDown, AreUp}
+use Rattle.cold_servers.specs.Steps.{AreDown}
 use Rattle.command_journal.specs.declared.answer.EventAnswer.{EventAnswer}
 use Rattle.command_journal.specs.declared.world.ColdWorld.{ColdWorld}
 use Rattle.command_journal.specs.Parts.{CountsBy, PlaysLine, answered, asks_server, cold_as, is_start, whole_of}
 use Rattle.command_journal.specs.Playing.{BreaksLine, CannotStart, DoesEvent, DoesLine, EndedBy, EventBroken, FindsBy, LacksBy, LineDone, LineFailsBy, LineLacks, RisesInEvent}
-use Rattle.command_journal.specs.Worlds.{HasParts, Stands, parts_of}
+use Rattle.command_journal.specs.Worlds.{HasParts, parts_of}
 
 -- What a call of the parts asks for.
 
@@ -52,34 +52,6 @@ pub stands-on : (parts : Cluster Solo) (seen : ColdSeen) → HasParts parts seen
 stands-on parts seen (inl stands) =
     record { setup = stands.setup; state = stands.state; good = stands.good; shows = stands.shows; count = stands.count; so = tt }
 stands-on parts seen (inr (silent, wild)) = absurd wild.wild.servers
-
-pub shares-up : (next : Line) (parts : Cluster Solo) → AreUp parts → (SharesIn cold_kit cold_script) next parts
-shares-up next parts up setup state good shows = shared next state (up setup state good shows)
-  where
-    shared : (next : Line) (state : State Alone) → state.peers.up ≡ true → SharesCold next state
-    shared (line.Time now) state is = tt
-    shared (line.Log client asked) state is = tt
-    shared (line.Ntf client asked) state is = tt
-    shared (line.Inject bytes) state is = tt
-    shared (line.DispatchOne client) state is = tt
-    shared (line.DispatchAll client workers) state is = tt
-    shared line.Servers state is = tt
-    shared _ state is = is
-
--- what asks nothing of the server is shared while it is down
-pub shares-down : (now : ℤ) (next : Line) (parts : Cluster Solo) → CanPlay cold_script now next → asks_server next ≡ false → (SharesIn cold_kit cold_script) next parts
-shares-down now next parts can asks setup state good shows = shared next state can asks
-  where
-    shared : (next : Line) (state : State Alone) → CanPlay cold_script now next → asks_server next ≡ false → SharesCold next state
-    shared (line.Time later) state can asks = tt
-    shared (line.Log client asked) state can asks = tt
-    shared (line.Ntf client asked) state can asks = tt
-    shared (line.Inject bytes) state can asks = tt
-    shared (line.DispatchOne client) state can asks = tt
-    shared (line.DispatchAll client workers) state can asks = tt
-    shared line.Servers state can asks = tt
-    shared (line.Cluster start queue callbacks alarm ntf sys) state can asks = absurd can
-    shared _ state can asks = cc
 
 -- Files that are shown.
 

@@ -1,5 +1,5 @@
 -- Words of public clauses: what a cluster line begins, and what that leaves of both disks.
-use Rattle.std.specs.Prelude.{◌≡◌, ◌⊎◌, ℕ, suc, length, List, [], ◌∷◌, Result, Ok, Err}
+use Rattle.std.specs.Prelude.{◌≡◌, ◌⊎◌, ℕ, suc, length, List, [], Result, Ok, Err}
 use Rattle.ais_values.specs.declared.kind.StreamKind.TheVariants.{Alarm, Notification, System}
 use Rattle.disk_model.specs.Counts.{Counters, passed}
 use Rattle.disk_model.specs.DeviceCalls.{DeviceCall, FailsAfter}

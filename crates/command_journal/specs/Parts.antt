@@ -1,5 +1,5 @@
 -- Words of bodies alone: a world that is put together of its parts, and results that end alike.
-use Rattle.std.specs.Prelude.{◌≡◌, ℕ, true, false, Bool, Some, None, List, Result, Ok, Err, OnOk, IfErr}
+use Rattle.std.specs.Prelude.{ℕ, true, false, Bool, Some, None, List, Result, Ok, Err, OnOk, IfErr}
 use Rattle.std.specs.Result.{is_ok}
 use Rattle.disk_model.specs.declared.answers.DiskAnswer.{DiskAnswer}
 use Rattle.script_lines.specs.declared.line.Line.{Line}

@@ -1,5 +1,5 @@
 -- Words of public clauses: what each line of a script does to a server and its journal, and what it leaves where it is not done.
-use Rattle.std.specs.Prelude.{◌≡◌, ℕ, Bool, true, false, Option, Some, None, IfSome, IsSome, List, [], Result, Ok, Err}
+use Rattle.std.specs.Prelude.{◌≡◌, ℕ, Bool, true, false, None, IfSome, IsSome, List, [], Result, Ok, Err}
 use Rattle.script_lines.specs.declared.line.Line.{Line}
 use Rattle.script_lines.specs.declared.line.Line.TheVariants as line
 use Rattle.script_lines.specs.declared.line.Server.TheVariants.{A}

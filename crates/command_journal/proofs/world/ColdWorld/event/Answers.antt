@@ -1,4 +1,3 @@
-use Rattle.std.proofs.Common.{subst}
 use Rattle.cluster_lines.proofs.LineSpelled.{spelled-fits}
 use Rattle.command_journal.specs.Worlds.{both, parts_of}
 use Rattle.command_journal.proofs.EventSteps.{event-broken, event-does, event-rises, still-stands}
