@@ -5,7 +5,7 @@ ghost use Rattle.disk_model.specs.Counts.{Counts, Counters, no_calls, read_more,
 ghost use Rattle.disk_model.specs.declared.answers.DiskAnswer.{DiskAnswer};
 ghost use Rattle.disk_model.specs.declared.answers.DiskFault.{DiskFault};
 
-use crate::folders::{self, PATH_BYTES, path_of};
+use crate::folders::{self, PATH_BYTES, Root, path_of};
 use crate::kept_files::KeptFiles;
 use crate::tally::Tally;
 use crate::walk::all_names;
@@ -16,7 +16,7 @@ use std::io;
 use std::marker::Model;
 use std::rt::Files;
 
-/// The files below the folder `ais_log_root` of the current folder. It tells nothing of them.
+/// The files below a root folder of the current folder. It tells nothing of them.
 ///
 /// A name is the path below that folder: 1 byte or more, each from 32 to 126, its parts between slashes
 /// neither empty nor `.` nor `..`; any other name is that of no file, which `len` tells and every other call
@@ -38,6 +38,7 @@ use std::rt::Files;
 #[derive(Drop)]
 pub struct DirDisk<R: Files + Drop> {
     rt: R,
+    root: Root,
     kept: KeptFiles<R>,
     tally: Tally,
     faults: u64,
@@ -53,13 +54,14 @@ impl<R: Files + Drop> Model for DirDisk<R> {
 }
 
 impl<R: Files + AllocGlobal + Drop> DirDisk<R> {
-    /// The disk of this runtime's file system, not armed.
-    pub fn new(rt: R) -> DirDisk<R>
+    /// The disk of this runtime's file system below this root, not armed.
+    pub fn new(rt: R, root: Root) -> DirDisk<R>
         ensures { result ≡ record { faults = 0; stops = 0; tally = no_calls } }
     {
-        let kept = KeptFiles::new(rt.alloc());
+        let kept = KeptFiles::new(rt.alloc(), root);
         DirDisk {
             rt,
+            root,
             kept,
             tally: Tally::new(),
             faults: 0,
@@ -121,7 +123,7 @@ impl<R: Files + AllocGlobal + Clone + Drop> SharedDisk for DirDisk<R> {
 
     fn names(&mut self, alloc: Global) -> Result<Seq<Text>, DiskAnswer> {
         self.count_read();
-        match all_names(&self.rt, alloc) {
+        match all_names(&self.rt, alloc, self.root) {
             Ok(names) => Ok(names),
             Err(DiskAnswer::Memory) => Err(DiskAnswer::Memory),
             Err(_) => {
@@ -134,8 +136,8 @@ impl<R: Files + AllocGlobal + Clone + Drop> SharedDisk for DirDisk<R> {
     fn len(&mut self, name: &[u8]) -> Result<Option<u64>, DiskFault> {
         self.count_read();
         let mut buffer = [0; PATH_BYTES];
-        let found = match path_of(name, &mut buffer) {
-            Some(path) => folders::look(&self.rt, path),
+        let found = match path_of(self.root, name, &mut buffer) {
+            Some(path) => folders::look(&self.rt, self.root, path),
             None => Ok(None),
         };
         match found {
@@ -151,8 +153,8 @@ impl<R: Files + AllocGlobal + Clone + Drop> SharedDisk for DirDisk<R> {
     fn read(&mut self, name: &[u8], at: u64, buf: &mut [u8]) -> Result<usize, DiskFault> {
         self.count_read();
         let mut buffer = [0; PATH_BYTES];
-        let count = match path_of(name, &mut buffer) {
-            Some(path) => folders::read(&self.rt, path, at, buf),
+        let count = match path_of(self.root, name, &mut buffer) {
+            Some(path) => folders::read(&self.rt, self.root, path, at, buf),
             None => Err(io::Error::from(io::ErrorKind::InvalidFilename)),
         };
         match count {
@@ -208,8 +210,11 @@ impl<R: Files + AllocGlobal + Clone + Drop> SharedDisk for DirDisk<R> {
         self.kept.close(to);
         let mut before = [0; PATH_BYTES];
         let mut after = [0; PATH_BYTES];
-        let said = match (path_of(from, &mut before), path_of(to, &mut after)) {
-            (Some(from), Some(to)) => folders::rename(&self.rt, from, to),
+        let said = match (
+            path_of(self.root, from, &mut before),
+            path_of(self.root, to, &mut after),
+        ) {
+            (Some(from), Some(to)) => folders::rename(&self.rt, self.root, from, to),
             _ => Err(io::Error::from(io::ErrorKind::InvalidFilename)),
         };
         self.told(said)
@@ -221,8 +226,8 @@ impl<R: Files + AllocGlobal + Clone + Drop> SharedDisk for DirDisk<R> {
         }
         self.kept.close(name);
         let mut buffer = [0; PATH_BYTES];
-        let said = match path_of(name, &mut buffer) {
-            Some(path) => folders::remove(&self.rt, path),
+        let said = match path_of(self.root, name, &mut buffer) {
+            Some(path) => folders::remove(&self.rt, self.root, path),
             None => Err(io::Error::from(io::ErrorKind::InvalidFilename)),
         };
         self.told(said)

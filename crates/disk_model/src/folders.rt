@@ -1,4 +1,4 @@
-//! Files below the folder of the logs, by system calls.
+//! Files below a root folder, by system calls.
 ghost use Rattle.std.specs.Prelude.{◌≤◌, length, IfOk};
 
 use std::alloc::Global;
@@ -7,8 +7,24 @@ use std::io::{ErrorKind, Read, Seek, SeekFrom};
 use std::rt::Files;
 use std::{fs, io};
 
-/// The folder, of the current one, below which all files stand.
-pub const ROOT: &str = "ais_log_root";
+/// The folder, of the current one, below which all files of a disk stand.
+#[derive(Clone, Copy, Debug, PartialEq, Eq)]
+pub enum Root {
+    Logs,
+    Journal,
+}
+
+impl Root {
+    /// The folder's name.
+    pub fn folder(self) -> &'static str
+        ensures { length result.now ≤ 16 }
+    {
+        match self {
+            Root::Logs => "ais_log_root",
+            Root::Journal => "ais_journal_root",
+        }
+    }
+}
 
 /// The most bytes of a path that the system takes.
 pub const PATH_BYTES: usize = 4096;
@@ -23,8 +39,8 @@ pub fn is_plain(name: &[u8]) -> bool {
 }
 
 /// The path of a name, written into the buffer; none where the name is not plain or the path too long.
-pub fn path_of<'a>(name: &[u8], buffer: &'a mut [u8; PATH_BYTES]) -> Option<&'a str> {
-    let root = ROOT.as_bytes();
+pub fn path_of<'a>(root: Root, name: &[u8], buffer: &'a mut [u8; PATH_BYTES]) -> Option<&'a str> {
+    let root = root.folder().as_bytes();
     let before = root.len() + 1;
     if !is_plain(name) || name.len() > PATH_BYTES - before {
         return None;
@@ -37,7 +53,7 @@ pub fn path_of<'a>(name: &[u8], buffer: &'a mut [u8; PATH_BYTES]) -> Option<&'a 
 }
 
 /// What stands at a path: a file, or none. A folder is no file; another thing is a fault.
-pub fn look<R: Files>(rt: &R, path: &str) -> io::Result<Option<Metadata>> {
+pub fn look<R: Files>(rt: &R, root: Root, path: &str) -> io::Result<Option<Metadata>> {
     match fs::symlink_metadata(rt, path) {
         Ok(found) => {
             if found.is_file() {
@@ -50,15 +66,15 @@ pub fn look<R: Files>(rt: &R, path: &str) -> io::Result<Option<Metadata>> {
         }
         Err(error) => match error.kind() {
             ErrorKind::NotFound => Ok(None),
-            ErrorKind::NotADirectory => no_file(rt, error),
+            ErrorKind::NotADirectory => no_file(rt, root, error),
             _ => Err(error),
         },
     }
 }
 
 // A part of the path is a file: no file stands there, unless the root itself is no folder.
-fn no_file<R: Files>(rt: &R, error: io::Error) -> io::Result<Option<Metadata>> {
-    if fs::metadata(rt, ROOT)?.is_dir() {
+fn no_file<R: Files>(rt: &R, root: Root, error: io::Error) -> io::Result<Option<Metadata>> {
+    if fs::metadata(rt, root.folder())?.is_dir() {
         Ok(None)
     } else {
         Err(error)
@@ -118,8 +134,8 @@ pub fn create<R: Files>(rt: &R, path: &str) -> io::Result<R::File> {
 }
 
 /// Gives a file another name, durably. An absent file is none to rename.
-pub fn rename<R: Files>(rt: &R, from: &str, to: &str) -> io::Result<()> {
-    if look(rt, from)?.is_none() {
+pub fn rename<R: Files>(rt: &R, root: Root, from: &str, to: &str) -> io::Result<()> {
+    if look(rt, root, from)?.is_none() {
         return Ok(());
     }
     let (left, entered) = (folder_of(from), folder_of(to));
@@ -133,8 +149,8 @@ pub fn rename<R: Files>(rt: &R, from: &str, to: &str) -> io::Result<()> {
 }
 
 /// Removes a file, durably. An absent file is none to remove.
-pub fn remove<R: Files>(rt: &R, path: &str) -> io::Result<()> {
-    if look(rt, path)?.is_none() {
+pub fn remove<R: Files>(rt: &R, root: Root, path: &str) -> io::Result<()> {
+    if look(rt, root, path)?.is_none() {
         return Ok(());
     }
     fs::remove_file(rt, path)?;
@@ -142,10 +158,10 @@ pub fn remove<R: Files>(rt: &R, path: &str) -> io::Result<()> {
 }
 
 /// Reads what stands in a file from a place on, as much as the buffer holds. An absent file is a fault.
-pub fn read<R: Files>(rt: &R, path: &str, at: u64, buf: &mut [u8]) -> io::Result<usize>
+pub fn read<R: Files>(rt: &R, root: Root, path: &str, at: u64, buf: &mut [u8]) -> io::Result<usize>
     ensures { IfOk result (λ count. count ≤ length buf.old) }
 {
-    let Some(found) = look(rt, path)? else {
+    let Some(found) = look(rt, root, path)? else {
         return Err(io::Error::from(ErrorKind::NotFound));
     };
     if at >= found.len() {

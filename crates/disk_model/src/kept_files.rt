@@ -1,5 +1,5 @@
 //! Files that stay open, so that one that is written again and again is looked for and opened once.
-use crate::folders::{self, PATH_BYTES, path_of};
+use crate::folders::{self, PATH_BYTES, Root, path_of};
 use std::alloc::Global;
 use std::fs::{OpenFile, OpenOptions};
 use std::io;
@@ -55,12 +55,17 @@ impl<R: Files> KeptFile<R> {
 }
 
 // Looks for a file and opens it; none where no file stands.
-fn open<R: Files>(rt: &R, alloc: Global, name: &[u8]) -> io::Result<Option<KeptFile<R>>> {
+fn open<R: Files>(
+    rt: &R,
+    alloc: Global,
+    root: Root,
+    name: &[u8],
+) -> io::Result<Option<KeptFile<R>>> {
     let mut buffer = [0; PATH_BYTES];
-    let Some(path) = path_of(name, &mut buffer) else {
+    let Some(path) = path_of(root, name, &mut buffer) else {
         return Err(io::Error::from(ErrorKind::InvalidFilename));
     };
-    let Some(found) = folders::look(rt, path)? else {
+    let Some(found) = folders::look(rt, root, path)? else {
         return Ok(None);
     };
     let file = OpenOptions::new().write(true).open(rt, path)?;
@@ -72,13 +77,15 @@ fn open<R: Files>(rt: &R, alloc: Global, name: &[u8]) -> io::Result<Option<KeptF
 /// A file whose call failed, and one that gets another name or goes, is closed, so that the next call looks for it.
 #[derive(Drop)]
 pub struct KeptFiles<R: Files> {
+    root: Root,
     files: Vec<KeptFile<R>>,
 }
 
 impl<R: Files> KeptFiles<R> {
-    /// No file is open yet.
-    pub fn new(alloc: Global) -> KeptFiles<R> {
+    /// No file below the root is open yet.
+    pub fn new(alloc: Global, root: Root) -> KeptFiles<R> {
         KeptFiles {
+            root,
             files: Vec::new(alloc),
         }
     }
@@ -100,7 +107,7 @@ impl<R: Files> KeptFiles<R> {
     ) -> io::Result<Option<KeptFile<R>>> {
         match self.take(name) {
             Some(kept) => Ok(Some(kept)),
-            None => open(rt, alloc, name),
+            None => open(rt, alloc, self.root, name),
         }
     }
 
@@ -129,7 +136,7 @@ impl<R: Files> KeptFiles<R> {
     pub fn create(&mut self, rt: &R, alloc: Global, name: &[u8]) -> io::Result<()> {
         self.close(name);
         let mut buffer = [0; PATH_BYTES];
-        let Some(path) = path_of(name, &mut buffer) else {
+        let Some(path) = path_of(self.root, name, &mut buffer) else {
             return Err(io::Error::from(ErrorKind::InvalidFilename));
         };
         let file = folders::create(rt, path)?;

@@ -17,6 +17,7 @@ mod walk;
 
 pub use answers::{DiskAnswer, DiskFault};
 pub use dir_disk::DirDisk;
+pub use folders::Root;
 pub use mem_disk::MemDisk;
 pub use no_disk::NoDisk;
 pub use shared_disk::SharedDisk;

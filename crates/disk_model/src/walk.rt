@@ -1,6 +1,6 @@
-//! The names of all files below the folder of the logs.
+//! The names of all files below a root folder.
 use crate::DiskAnswer;
-use crate::folders::{ROOT, is_plain, make_folders};
+use crate::folders::{Root, is_plain, make_folders};
 use ais_values::{Seq, Text, TextAnswer};
 use std::alloc::{AllocError, Global};
 use std::fs::DirEntry;
@@ -24,9 +24,9 @@ fn answer(error: io::Error) -> DiskAnswer {
 }
 
 // The name of a path, which is what follows the root and its slash.
-fn name_of(alloc: Global, path: &str) -> Result<Vec<u8>, DiskAnswer> {
+fn name_of(alloc: Global, root: Root, path: &str) -> Result<Vec<u8>, DiskAnswer> {
     let bytes = path.as_bytes();
-    let before = ROOT.len() + 1;
+    let before = root.folder().len() + 1;
     if bytes.len() <= before {
         return Err(DiskAnswer::Failed);
     }
@@ -39,6 +39,7 @@ fn name_of(alloc: Global, path: &str) -> Result<Vec<u8>, DiskAnswer> {
 
 fn note<R: Files>(
     alloc: Global,
+    root: Root,
     entry: &DirEntry<R, Global>,
     found: &mut Found,
 ) -> Result<(), DiskAnswer> {
@@ -56,7 +57,7 @@ fn note<R: Files>(
     if !kind.is_file() {
         return Err(DiskAnswer::Failed);
     }
-    let name = name_of(alloc, path)?;
+    let name = name_of(alloc, root, path)?;
     found.names.push(name).map_err(AllocError::from)?;
     Ok(())
 }
@@ -64,6 +65,7 @@ fn note<R: Files>(
 fn list<R: Files + AllocGlobal + Clone + Drop>(
     rt: &R,
     alloc: Global,
+    root: Root,
     folder: &str,
     found: &mut Found,
 ) -> Result<(), DiskAnswer> {
@@ -73,7 +75,7 @@ fn list<R: Files + AllocGlobal + Clone + Drop>(
     };
     for entry in entries {
         match entry {
-            Ok(entry) => note(alloc, &entry, found)?,
+            Ok(entry) => note(alloc, root, &entry, found)?,
             Err(error) => return Err(answer(error)),
         }
     }
@@ -83,17 +85,18 @@ fn list<R: Files + AllocGlobal + Clone + Drop>(
 fn walk<R: Files + AllocGlobal + Clone + Drop>(
     rt: &R,
     alloc: Global,
+    root: Root,
 ) -> Result<Vec<Vec<u8>>, DiskAnswer> {
     let mut found = Found {
         names: Vec::new(alloc),
         folders: Vec::new(alloc),
     };
-    list(rt, alloc, ROOT, &mut found)?;
+    list(rt, alloc, root, root.folder(), &mut found)?;
     for _ in 0..u64::MAX {
         let Some(folder) = found.folders.pop() else {
             return Ok(found.names);
         };
-        list(rt, alloc, folder.as_str(), &mut found)?;
+        list(rt, alloc, root, folder.as_str(), &mut found)?;
     }
     Err(DiskAnswer::Failed)
 }
@@ -119,12 +122,13 @@ fn texts(alloc: Global, names: &[Vec<u8>]) -> Result<Seq<Text>, DiskAnswer> {
 pub fn all_names<R: Files + AllocGlobal + Clone + Drop>(
     rt: &R,
     alloc: Global,
+    root: Root,
 ) -> Result<Seq<Text>, DiskAnswer> {
-    match make_folders(rt, ROOT) {
+    match make_folders(rt, root.folder()) {
         Ok(()) => {}
         Err(error) => return Err(answer(error)),
     }
-    let mut names = walk(rt, alloc)?;
+    let mut names = walk(rt, alloc, root)?;
     names.sort()?;
     texts(alloc, names.as_slice())
 }

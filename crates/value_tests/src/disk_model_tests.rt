@@ -352,6 +352,25 @@ fn lacks_its_root<D: SharedDisk>(
     Ok(())
 }
 
+// Disks on two roots have each its own files.
+fn two_roots<R: Abort + Files + AllocGlobal + Clone + Drop>(rt: &R) -> Result<(), Fail> {
+    let mut logs = DirDisk::new(rt.clone()?, Root::Logs);
+    let mut journal = DirDisk::new(rt.clone()?, Root::Journal);
+    logs.create(b"f")?;
+    journal.create(b"f")?;
+    journal.write_at(b"f", 0, b"frame")?;
+    stands(rt, "ais_log_root/f", b"")?;
+    stands(rt, "ais_journal_root/f", b"frame")?;
+    logs.remove(b"f")?;
+    assert!(rt; logs.len(b"f") == Ok(None));
+    assert!(rt; journal.len(b"f") == Ok(Some(5)));
+    drop(logs);
+    drop(journal);
+    fs::remove_dir_all(rt, ROOT)?;
+    fs::remove_dir_all(rt, "ais_journal_root")?;
+    Ok(())
+}
+
 // What every disk does, and what a disk on folders does besides.
 fn changes_folders<D: SharedDisk>(
     rt: &(impl Abort + Files + AllocGlobal),
@@ -372,10 +391,11 @@ fn a_disk_on_folders_changes_its_files(rt: HostRuntime) -> Result<(), Fail> {
         !fs::exists(&rt, ROOT)?,
         "the test makes this folder itself"
     );
-    let mut disk = DirDisk::new(rt.clone()?);
+    let mut disk = DirDisk::new(rt.clone()?, Root::Logs);
     let done = changes_folders(&rt, &mut disk);
     drop(disk);
-    done
+    done?;
+    two_roots(&rt)
 }
 
 // A disk in memory with the file `f` of six bytes, of which nothing is loose.
