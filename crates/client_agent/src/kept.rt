@@ -137,6 +137,8 @@ pub fn add_requests(
         messages.old.items ++ requests_of client (calls_kept kept.now.items)) }
 {
     let mut left = kept.len();
+    // At once, since the messages are wide.
+    messages.reserve(left)?;
     while left > 0 {
         left -= 1;
         let sent = &kept[left];

@@ -144,6 +144,12 @@ request-again service saved client number call now heard same is =
     subst (λ value. IsRequestByValue saved client number call now (judged_in saved client number) heard (serving value None)) (sym same) (again-by saved client number call now (judged_in saved client number) heard is)
 
 -- the next one is accepted
+-- the number of a client's next call is one above some other
+pub next-in-is : (saved : Saved) (client : ℕ) → IsFit saved → next_in saved client ≡ suc (next_in saved client - 1)
+next-in-is saved client fit =
+    let window = fit-window saved client fit in
+    omega (arith, next-is saved client window.0 window.1)
+
 pub request-new : (service saved : Saved) (client number : ℕ) (call : Call) (now : ℤ) (heard : Heard) (server : ReplicaState) → IsFit saved → service ≡ saved → number ≡ next_in service client → IsAcceptedAt saved (Called client number now call) heard server → IsRequestByValue saved client number call now (judged_in saved client number) heard server
 request-new service saved client number call now heard server fit same is accepted =
     let window = fit-window saved client fit in

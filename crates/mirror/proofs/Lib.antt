@@ -4,3 +4,4 @@ pub mod HearingLaws
 pub mod Judging
 pub mod PairingLaws
 pub mod ReplicaLaws
+pub mod Wanted

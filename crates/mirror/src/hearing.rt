@@ -15,8 +15,10 @@ ghost use Rattle.cluster_facts.specs.Service.{is_new};
 ghost use Rattle.mirror.specs.Hearing.{CanHear, IsHeardAtRest, IsRequestHeard, IsReceiptHeard, ignored, accepted_alone, repeated};
 ghost use Rattle.mirror.specs.ByValue.{serving, replies_for, IsAcceptedAt, judged_in, IsRequestByValue, IsReceiptByValue, IsHeardByValue};
 ghost use Rattle.mirror.specs.Reacting.{IsAccepted, IsHeardAgain, IsAgainByValue};
+ghost use Rattle.mirror.specs.Preparing.{becomes_in};
 
 use crate::owed::Owed;
+use crate::pairing::one;
 use crate::{Heard, Outcome, Role, Why};
 use ais_values::{Duplicate, Seq};
 use calls::{Call, Entry, Reply};
@@ -71,13 +73,12 @@ fn commit(alloc: Global, entry: Entry) -> Heard
 fn repeat(alloc: Global, client: u16, seq: u32, reply: &Reply) -> Result<Heard, AllocError>
     ensures { IfOk result (λ heard. heard ≡ repeated (Answer client seq reply.now)) }
 {
-    let mut to_net = Seq::new(alloc);
     let message = Message::Reply {
         client,
         seq,
         reply: reply.copy(alloc)?,
     };
-    to_net.push(message)?;
+    let to_net = one(alloc, message)?;
     Ok(Heard {
         to_net,
         to_peer: Seq::new(alloc),
@@ -230,6 +231,21 @@ fn hear_receipt(
         return accept(service, alloc, entry);
     }
     Ok(react_not(alloc, Why::Done))
+}
+
+/// Whether a message becomes the next entry: the client's next request, or a receipt that is new.
+pub(crate) fn becomes_next(service: &Service, message: &Message) -> bool
+    ensures { result ≡ becomes_in service.now message.now }
+{
+    match message {
+        Message::Request { client, seq, .. } => *seq == service.next(*client),
+        Message::Receipt {
+            client,
+            key,
+            through,
+        } => service.is_new(*client, *key, *through),
+        _ => false,
+    }
 }
 
 /// Hears a message. On an error nothing changes.

@@ -1,5 +1,5 @@
 //! What a server of a pair does on its parts.
-ghost use Rattle.std.specs.Prelude.{◌≡◌, ◌↔◌, IsTrue, suc, List, [], ◌∷◌, Some, None, length, IfOk, OnErr};
+ghost use Rattle.std.specs.Prelude.{◌≡◌, ◌↔◌, if◌then◌else◌, IsTrue, suc, List, [], ◌∷◌, Some, None, length, IfOk, OnErr};
 ghost use Rattle.calls.specs.declared.entry.Entry.{Entry as EntryOf};
 ghost use Rattle.calls.specs.declared.saved.Saved.{Saved as SavedOf};
 ghost use Rattle.wire.specs.declared.message.Message.TheVariants.{Snapshot};
@@ -17,7 +17,7 @@ ghost use Rattle.mirror.specs.Replicas.{HasRoom, at_rest, at_work};
 ghost use Rattle.mirror.specs.Hearing.{CanHear, ignored};
 ghost use Rattle.mirror.specs.Pairing.{sent, with_peer, tied_after, mirrors, newest, IsNextEntry, IsMirrored, IsMirroredByValue};
 ghost use Rattle.mirror.specs.ByValue.{serving};
-ghost use Rattle.mirror.specs.Preparing.{entry_by, held_back};
+ghost use Rattle.mirror.specs.Preparing.{entry_by, held_back, wanted_by};
 
 use crate::node::Tie;
 use crate::replica::Replica;
@@ -203,6 +203,25 @@ fn prepare(
     }
 }
 
+/// The same, of a message that becomes one. Of any other there is none, and no memory is taken.
+fn prepare_wanted(
+    alloc: Global,
+    replica: &Replica,
+    number: u64,
+    message: &Message,
+    now: i64,
+) -> Result<Seq<Message>, AllocError>
+    ensures { IfOk result (λ messages. messages ≡
+        (if wanted_by replica.now.service message.now
+        then mirrors number (entry_by message.now now) else [])) }
+{
+    if replica.wants(message) {
+        prepare(alloc, number, message, now)
+    } else {
+        Ok(Seq::new(alloc))
+    }
+}
+
 /// An entry that was accepted waits, and goes to the partner.
 fn hold_back(heard: &mut Heard, waits: &mut Option<Entry>, mirror: Seq<Message>)
     ensures heard { heard.new ≡ held_back heard.old.committed mirror heard.old }
@@ -246,7 +265,7 @@ pub(crate) fn hear_linked(
     ensures waits { OnErr result (waits.new ≡ waits.old) }
 {
     let number = replica.next_number();
-    let mirror = prepare(alloc, number, message, now)?;
+    let mirror = prepare_wanted(alloc, replica, number, message, now)?;
     let mut heard = replica.receive(alloc, message, now)?;
     hold_back(&mut heard, waits, mirror);
     Ok(heard)

@@ -19,9 +19,9 @@ ghost use Rattle.mirror.specs.Hearing.{CanHear, IsHeardAtRest, ignored};
 ghost use Rattle.mirror.specs.ByValue.{serving, IsHeardByValue, items_pushed};
 ghost use Rattle.mirror.specs.Working.{deeds_in, replies_in, worked, emptied};
 ghost use Rattle.mirror.specs.Pairing.{joining, snapshots, acting, CanApplyIn, IsNextEntry};
-ghost use Rattle.mirror.specs.Preparing.{number_next, HasApplied, HasAppliedTo};
+ghost use Rattle.mirror.specs.Preparing.{number_next, wanted_by, HasApplied, HasAppliedTo};
 
-use crate::hearing::ignore;
+use crate::hearing::{becomes_next, ignore};
 use crate::owed::Owed;
 use crate::pairing::{apply_mirrored, has_room, is_next, snapshot_of};
 use crate::parts::{do_deeds, hear_or_ignore, post_owed, push_items};
@@ -179,6 +179,16 @@ impl Replica {
                 let heard = hear_or_ignore(service, &mut self.owed, alloc, message, now)?;
                 Ok(heard)
             }
+        }
+    }
+
+    /// Whether a message becomes the next entry.
+    pub(crate) fn wants(&self, message: &Message) -> bool
+        ensures { result ≡ wanted_by self.now.service message.now }
+    {
+        match &self.service {
+            None => false,
+            Some(service) => becomes_next(service, message),
         }
     }
 
