@@ -1,5 +1,5 @@
 -- Words of public clauses: what is kept of the calls of one client, by all replies that were ever taken, the newest first. The first call has number 1.
-use Rattle.std.specs.Prelude.{◌≡◌, ℕ, ◌+◌, ◌-◌, ◌≤◌, min, List, length, take, reverse}
+use Rattle.std.specs.Prelude.{◌≡◌, ℕ, ◌+◌, ◌-◌, ◌≤◌, ◌==◌, nat_le, if◌then◌else◌, min, List, length, take, reverse, Option, Some, None}
 
 -- the number of the next call, and the last replies, the newest first
 pub record Kept (R : Type 0) : Type 0 where
@@ -18,3 +18,11 @@ window_of_parts next replies = record { next = next; replies = reverse replies }
 pub record HasRepliesBefore (next count : ℕ) : Type 0 where
   pub first : 1 ≤ next
   pub kept : count ≡ min (next - 1) 32
+
+-- so many places a window has at least that keeps so many replies: 4 at first, which double up to 32
+abbrev pub places_for : ℕ → ℕ
+places_for kept = if nat_le kept 4 then 4 else (if nat_le kept 8 then 8 else (if nat_le kept 16 then 16 else 32))
+
+-- the places that the next reply wants where so many are kept, if it wants more
+abbrev pub more_places : ℕ → Option ℕ
+more_places kept = if kept == 4 then Some 8 else (if kept == 8 then Some 16 else (if kept == 16 then Some 32 else None))

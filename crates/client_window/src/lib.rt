@@ -2,7 +2,9 @@
 #![tactic(auto)]
 
 mod judged;
+mod room;
 mod window;
 
 pub use judged::Judged;
+pub use room::Room;
 pub use window::Window;

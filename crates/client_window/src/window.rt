@@ -1,11 +1,12 @@
 //! The window of one client's calls.
-ghost use Rattle.std.specs.Prelude.{◌≡◌, ◌+◌, ◌<◌, ◌≤◌, List, [], ◌∷◌, length, take, reverse, slice_get, IfOk};
+ghost use Rattle.std.specs.Prelude.{◌≡◌, ◌+◌, ◌<◌, ◌≤◌, suc, min, List, [], ◌∷◌, length, take, reverse, slice_get, IfOk};
 ghost use Rattle.std.specs.Option.{option_copied};
 ghost use Rattle.std.specs.VecDeque.{deque_capacity};
-ghost use Rattle.client_window.specs.Windows.{window_of, window_of_parts, HasRepliesBefore};
+ghost use Rattle.client_window.specs.Windows.{window_of, window_of_parts, HasRepliesBefore, places_for, more_places};
 ghost use Rattle.client_window.specs.Judgement.{IsJudged};
 
 use crate::Judged;
+use crate::room::{Room, more_places, move_to};
 use ais_values::Seq;
 use std::alloc::{AllocError, Global};
 use std::collections::VecDeque;
@@ -13,6 +14,9 @@ use std::marker::Model;
 
 /// How many replies are kept.
 const KEPT: usize = 32;
+
+/// For how many of them there is room at first.
+const FIRST: usize = 4;
 
 /// The number of a client's next call, and the replies to the 32 calls before it.
 #[derive(Drop)]
@@ -33,10 +37,25 @@ impl<R> Model for Window<R> {
     ghost invariant = { IsKept };
 }
 
-/// Puts a reply in front, and lets the last one go where no place is free.
+/// Has the replies stand where there are more places, if there are such.
+fn widen<R: Drop>(replies: &mut VecDeque<R>, room: Option<Room<R>>)
+    requires bound { length replies.old.items ≤ 32 }
+    requires places { places_for (length replies.old.items) ≤ deque_capacity replies.old }
+    requires room { room ≡ more_places (length replies.old.items) }
+    ensures items { replies.new.items ≡ replies.old.items }
+    ensures places { places_for (min 32 (suc (length replies.old.items)))
+        ≤ deque_capacity replies.new }
+{
+    match room {
+        None => {}
+        Some(room) => move_to(replies, room),
+    }
+}
+
+/// Puts a reply in front, and lets the last one go where 32 are kept.
 fn keep<R: Drop>(replies: &mut VecDeque<R>, reply: R)
     requires bound { length replies.old.items ≤ 32 }
-    requires room { 32 ≤ deque_capacity replies.old }
+    requires room { min 32 (suc (length replies.old.items)) ≤ deque_capacity replies.old }
     ensures items { replies.new.items ≡ take 32 (reply ∷ replies.old.items) }
     ensures capacity { deque_capacity replies.new ≡ deque_capacity replies.old }
 {
@@ -45,17 +64,17 @@ fn keep<R: Drop>(replies: &mut VecDeque<R>, reply: R)
 }
 
 impl<R: Drop> Window<R> {
-    /// The window of a client that has made no call. It takes the memory of all its replies.
+    /// The window of a client that has made no call. It takes the memory of four replies.
     pub fn new(alloc: Global) -> Result<Window<R>, AllocError>
         ensures { IfOk result (λ window. window ≡ window_of []) }
     {
         Ok(Window {
             next: 1,
-            replies: VecDeque::with_capacity(alloc, KEPT)?,
+            replies: VecDeque::with_capacity(alloc, FIRST)?,
         })
     }
 
-    /// The window with these parts, the oldest reply first. It takes the memory of all its replies.
+    /// The window with these parts, the oldest reply first. It takes the memory of all the replies that it may keep.
     pub fn rebuild(alloc: Global, next: u32, replies: Seq<R>) -> Result<Window<R>, AllocError>
         requires { HasRepliesBefore next (length replies) }
         ensures { IfOk result (λ window. window ≡ window_of_parts next replies) }
@@ -85,11 +104,26 @@ impl<R: Drop> Window<R> {
         }
     }
 
-    /// Takes the reply to the next call. It takes no memory.
-    pub fn take(&mut self, reply: R)
-        requires { self.old.next < 4294967295 }
+    /// Room for the reply to the next call, where all places are taken. They are 4 at first, and double up to 32.
+    pub fn room(&self, alloc: Global) -> Result<Option<Room<R>>, AllocError>
+        ensures { IfOk result (λ room. room ≡ more_places (length self.now.replies)) }
+    {
+        match more_places(self.replies.len()) {
+            None => Ok(None),
+            Some(places) => match Room::new(alloc, places) {
+                Ok(room) => Ok(Some(room)),
+                Err(error) => Err(error),
+            },
+        }
+    }
+
+    /// Takes the reply to the next call, with room for it. It takes no memory.
+    pub fn take(&mut self, room: Option<Room<R>>, reply: R)
+        requires next { self.old.next < 4294967295 }
+        requires room { room ≡ more_places (length self.old.replies) }
         ensures { (all : List R) → self.old ≡ window_of all → self.new ≡ window_of (reply ∷ all) }
     {
+        widen(&mut self.replies, room);
         keep(&mut self.replies, reply);
         self.next += 1;
     }

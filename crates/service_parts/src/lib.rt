@@ -12,4 +12,4 @@ pub use accepting::{accepted, is_alarm, record_for};
 pub use readers::stop_reader;
 pub use reading::{end_reading, read_on, start_reading};
 pub use told::Told;
-pub use windows::{answer_call, judge_call, next_call, room_for};
+pub use windows::{ReplyRoom, answer_call, judge_call, next_call, room_for};

@@ -1,18 +1,27 @@
 //! The windows of all clients, in order of their numbers.
-ghost use Rattle.std.specs.Prelude.{◌≡◌, ◌<◌, ◌≤◌, List, [], IfOk, nat_lt, true, vec_len, find, is_some, insert, option_copied};
+ghost use Rattle.std.specs.Prelude.{◌≡◌, ◌<◌, ◌≤◌, List, [], length, IfOk, nat_lt, true, vec_len, find, is_some, insert, option_copied};
 ghost use Rattle.std.specs.Vec.{vec_capacity};
 ghost use Rattle.std.specs.List.{prefix_len};
 ghost use Rattle.client_set.specs.Rising.{IsRising};
-ghost use Rattle.client_window.specs.Windows.{window_of};
+ghost use Rattle.client_window.specs.Windows.{window_of, more_places};
 ghost use Rattle.client_window.specs.Judgement.{IsJudged};
 ghost use Rattle.service_table.specs.Tables.{is_window_for, window_before};
 ghost use Rattle.service_table.specs.Steps.{window_for, with_reply, answered};
 ghost use Rattle.service_parts.specs.Windows.{IsFresh, HasRoom};
 
 use calls::Reply;
-use client_window::{Judged, Window};
+use client_window::{Judged, Room, Window};
 use service_table::ClientWindow;
 use std::alloc::{AllocError, Global};
+
+/// Room for the reply to a client's next call.
+#[derive(Drop)]
+pub enum ReplyRoom {
+    /// The client has a window; these are places for its replies, where all that it has are taken.
+    Known { more: Option<Room<Reply>> },
+    /// The window of a client that has none yet.
+    First { window: Window<Reply> },
+}
 
 /// Whether a window is that of a client of a lower number.
 fn is_below(caller: &ClientWindow, client: u16) -> bool
@@ -60,44 +69,70 @@ fn has_window(callers: &[ClientWindow], client: u16) -> bool
     window_at(callers, client).is_some()
 }
 
-/// Room for the reply to a client's next call: a window for a client that has none. On an error nothing changes.
+/// Places for the reply to the next call of a client that has a window, where all that it has are taken.
+fn more_room(
+    alloc: Global,
+    callers: &[ClientWindow],
+    client: u16,
+) -> Result<Option<Room<Reply>>, AllocError>
+    requires order { IsRising window_before callers.now }
+    requires known { is_some (find (is_window_for client) callers.now) ≡ true }
+    ensures { IfOk result (λ more.
+        more ≡ more_places (length (window_for client callers.now).replies)) }
+{
+    match window_at(callers, client) {
+        Some(caller) => caller.window.room(alloc),
+        None => unreachable!(),
+    }
+}
+
+/// Room for the reply to a client's next call: more places in a window that is full, or a window for a client that has none. On an
+/// error nothing changes.
 pub fn room_for(
     alloc: Global,
     callers: &mut Vec<ClientWindow>,
     client: u16,
-) -> Result<Option<Window<Reply>>, AllocError>
+) -> Result<ReplyRoom, AllocError>
     requires { IsRising window_before callers.old.items }
     ensures callers { callers.new.items ≡ callers.old.items }
-    ensures room { IfOk result (λ fresh.
-        HasRoom client callers.new.items (vec_len callers.new) (vec_capacity callers.new) fresh) }
+    ensures room { IfOk result (λ room.
+        HasRoom client callers.new.items (vec_len callers.new) (vec_capacity callers.new) room) }
 {
     if has_window(callers.as_slice(), client) {
-        return Ok(None);
+        let more = more_room(alloc, callers.as_slice(), client)?;
+        return Ok(ReplyRoom::Known { more });
     }
     let window = Window::new(alloc)?;
     callers.reserve(1)?;
-    Ok(Some(window))
+    Ok(ReplyRoom::First { window })
 }
 
 /// Takes the reply to the next call.
-fn take_reply(window: &mut Window<Reply>, reply: Reply)
-    requires { window.old.next < 4294967295 }
+fn take_reply(window: &mut Window<Reply>, more: Option<Room<Reply>>, reply: Reply)
+    requires next { window.old.next < 4294967295 }
+    requires room { more ≡ more_places (length window.old.replies) }
     ensures { window.new ≡ with_reply reply window.old }
 {
     let _next = window.next();
-    window.take(reply);
+    window.take(more, reply);
 }
 
 /// Answers the next call of a client that has a window.
-fn answer_known(callers: &mut Vec<ClientWindow>, client: u16, reply: Reply)
+fn answer_known(
+    callers: &mut Vec<ClientWindow>,
+    client: u16,
+    more: Option<Room<Reply>>,
+    reply: Reply,
+)
     requires order { IsRising window_before callers.old.items }
     requires known { is_some (find (is_window_for client) callers.old.items) ≡ true }
     requires next { (window_for client callers.old.items).next < 4294967295 }
+    requires room { more ≡ more_places (length (window_for client callers.old.items).replies) }
     ensures { callers.new.items ≡ answered client reply callers.old.items }
 {
     let place = place_of(callers.as_slice(), client);
     let caller = &mut callers[place];
-    take_reply(&mut caller.window, reply);
+    take_reply(&mut caller.window, more, reply);
 }
 
 /// Puts a window at a place, for which there is room.
@@ -118,26 +153,21 @@ fn answer_first(callers: &mut Vec<ClientWindow>, client: u16, window: Window<Rep
 {
     let place = place_of(callers.as_slice(), client);
     let mut window = window;
-    take_reply(&mut window, reply);
+    take_reply(&mut window, None, reply);
     put_at(callers, place, ClientWindow { client, window });
 }
 
 /// Answers the next call of a client. It takes no memory.
-pub fn answer_call(
-    callers: &mut Vec<ClientWindow>,
-    client: u16,
-    fresh: Option<Window<Reply>>,
-    reply: Reply,
-)
+pub fn answer_call(callers: &mut Vec<ClientWindow>, client: u16, room: ReplyRoom, reply: Reply)
     requires order { IsRising window_before callers.old.items }
     requires room { HasRoom client callers.old.items (vec_len callers.old)
-        (vec_capacity callers.old) fresh }
+        (vec_capacity callers.old) room }
     requires next { (window_for client callers.old.items).next < 4294967295 }
     ensures { callers.new.items ≡ answered client reply callers.old.items }
 {
-    match fresh {
-        None => answer_known(callers, client, reply),
-        Some(window) => answer_first(callers, client, window, reply),
+    match room {
+        ReplyRoom::Known { more } => answer_known(callers, client, more, reply),
+        ReplyRoom::First { window } => answer_first(callers, client, window, reply),
     }
 }
 

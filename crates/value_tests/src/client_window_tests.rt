@@ -20,7 +20,8 @@ fn answered(rt: &impl Abort, alloc: Global, count: u32) -> Window<u32> {
     for _ in 0..count {
         let next = window.next();
         assert!(rt; next < 1000);
-        window.take(100 + next);
+        let room = window.room(alloc).expect(rt, "memory");
+        window.take(room, 100 + next);
     }
     window
 }
