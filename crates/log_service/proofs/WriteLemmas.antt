@@ -27,7 +27,8 @@ use mir.Val.{SFits}
 use Rattle.log_history.specs.Times.{filled_time, filled_header, record_at}
 use Rattle.log_history.specs.Table.{OpenStream, LogTable, is_named, last_after_due}
 use Rattle.log_history.specs.Changes.{Stored}
-use Rattle.log_service.specs.State.{Made, HasSeverity}
+use Rattle.log_history.specs.Marks.{HasSeverity}
+use Rattle.log_service.specs.State.{Made}
 use Rattle.log_service.specs.Moments.{second_of}
 use Rattle.log_service.specs.Changing.{StoresIn}
 use Rattle.log_service.proofs.EndLemmas.{pos-from}

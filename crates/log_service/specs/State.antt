@@ -62,11 +62,6 @@ pub record Tells (filtered : Bool) (mark : Option Mark) (step : Step) : Type 0 w
   pub ok : step.status ≡ status.Ok → (step.filtered ≡ filtered) × (step.mark ≡ mark)
   pub refused : step.status ≢ status.Ok → (step.filtered ≡ false) × (step.mark ≡ None)
 
--- a severity is one of the seven
-abbrev pub HasSeverity : Header → Type 0
-HasSeverity (Ntf id event_type object notifier class event_time) = Unit {0}
-HasSeverity (Generic class user severity) = severity ≤ 6
-
 -- the stream for the records of notifications of a kind: alarms have their own
 abbrev pub stream_of_kind : StreamKind → StreamName
 stream_of_kind Alarm = name.Alarm

@@ -3,30 +3,18 @@ ghost use Rattle.std.specs.Prelude.{◌≡◌, ◌≤◌, ◌^◌, ℕ, Some, If
 ghost use Rattle.record_print.specs.Printing.{event_time};
 ghost use Rattle.record_print.specs.Records.{can_write};
 ghost use Rattle.log_history.specs.Times.{filled_time, filled_header, record_at};
-ghost use Rattle.log_history.specs.Marks.{is_filtered};
-ghost use Rattle.log_service.specs.State.{HasSeverity, stream_of_kind};
+ghost use Rattle.log_service.specs.State.{stream_of_kind};
 
 use ais_values::{Duplicate, Name, StreamKind, Text, UNKNOWN_TIME};
 use record_print::{Header, LogRecord, check_write};
 use std::alloc::{AllocError, Global};
-use stream_config::{StreamName, lets_pass};
+use stream_config::StreamName;
 
 /// Whether a record may be written to a stream of the kind.
 pub(crate) fn may_write(kind: StreamKind, time: i64, header: &Header) -> bool
     ensures { result ≡ can_write kind time header.now }
 {
     check_write(kind, time, header).is_ok()
-}
-
-/// Whether a mask filters a record with this header.
-pub(crate) fn is_filtered(mask: u32, header: &Header) -> bool
-    requires { HasSeverity header.now }
-    ensures { result ≡ is_filtered mask header.now }
-{
-    match header {
-        Header::Ntf { .. } => false,
-        Header::Generic { severity, .. } => !lets_pass(mask, *severity),
-    }
 }
 
 /// The stream for the records of notifications of a kind, which has their header.

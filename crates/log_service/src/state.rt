@@ -24,11 +24,12 @@ ghost use Rattle.log_service.specs.Planning.{step_of, planned, CanCommit, HasRoo
 
 use crate::live::LiveStream;
 use crate::plan::{Doing, LogPlan, carry_out};
-use crate::records::{is_filtered, may_write, read_event, stream_of_kind};
+use crate::records::{may_write, read_event, stream_of_kind};
 use crate::step::Step;
 use crate::{begin, streams};
 use ais_values::{Duplicate, Seq, Status, StreamKind, Text};
 use client_set::ClientSet;
+use log_history::is_filtered;
 use record_print::{Header, LogRecord};
 use std::alloc::{AllocError, Global};
 use std::marker::Model;
