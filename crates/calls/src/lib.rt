@@ -4,6 +4,7 @@
 mod boxed;
 mod call;
 mod entry;
+mod going;
 mod history;
 mod law;
 mod reply;
@@ -12,6 +13,7 @@ mod saved;
 pub use boxed::Boxed;
 pub use call::{Ask, Call};
 pub use entry::{Entry, Held};
+pub use going::{let_entries_go, let_entry_go, let_history_go};
 pub use history::History;
 pub use law::law_of_equality;
 pub use reply::{Callback, Reply};

@@ -5,6 +5,7 @@
 mod agent;
 mod answers;
 mod callbacks;
+mod going;
 mod kept;
 mod library;
 mod living;
@@ -14,3 +15,4 @@ mod waiting;
 
 pub use agent::Agent;
 pub use answers::{Dispatched, How, MissedWhy, Sent, Taken};
+pub use going::{let_agent_go, let_agents_go, let_sent_go, let_taken_go};

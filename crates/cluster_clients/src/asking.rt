@@ -10,7 +10,7 @@ use crate::agents::{count_below, place_of};
 use crate::posting::post;
 use ais_values::Seq;
 use calls::Ask;
-use client_agent::{Agent, Sent};
+use client_agent::{Agent, Sent, let_agent_go, let_sent_go};
 use event_text::put_declined;
 use message_net::Net;
 use std::alloc::{AllocError, Global};
@@ -67,7 +67,7 @@ fn tell_sent(
     ensures err { OnErr result (MayPost sent net.old net.new) }
 {
     let told = tell(alloc, net, lines, client, &sent);
-    mem::drop(sent);
+    let_sent_go(sent);
     told
 }
 
@@ -118,7 +118,7 @@ fn enlist(alloc: Global, agents: &mut Seq<Agent>, agent: Agent) -> Result<(), Al
     match done {
         Ok(()) => Ok(()),
         Err(failed) => {
-            mem::drop(failed);
+            let_agent_go(failed.value);
             Err(AllocError)
         }
     }
@@ -138,7 +138,7 @@ fn first_call<R>(
     match agent.call(alloc, asked) {
         Ok(sent) => Ok((agent, sent)),
         Err(error) => {
-            mem::drop(agent);
+            let_agent_go(agent);
             Err(error)
         }
     }
@@ -172,13 +172,13 @@ fn place_first(
         agents.new) }
 {
     if !is_posted(&sent) {
-        mem::drop(agent);
+        let_agent_go(agent);
         return tell_sent(alloc, net, lines, client, sent);
     }
     match enlist(alloc, agents, agent) {
         Ok(()) => tell_sent(alloc, net, lines, client, sent),
         Err(error) => {
-            mem::drop(sent);
+            let_sent_go(sent);
             Err(error)
         }
     }

@@ -11,8 +11,7 @@ use ais_values::Seq;
 use event_text::{put_post, put_raw};
 use message_net::Net;
 use std::alloc::{AllocError, Global};
-use std::mem;
-use wire::{Message, encode, law_of_spellings};
+use wire::{Message, encode, law_of_spellings, let_message_go};
 
 /// Posts a message, and adds its line where the net did not have it. Where memory runs out the net may have the message.
 pub fn post(
@@ -92,7 +91,7 @@ pub fn inject(
 {
     match read_string(alloc, bytes) {
         Ok(Fetched::Whole { message }) => {
-            mem::drop(message);
+            let_message_go(Some(message));
             Ok(false)
         }
         Ok(Fetched::Bad { .. }) => match inject_raw(alloc, net, lines, bytes) {

@@ -12,7 +12,7 @@ ghost use Rattle.cluster_clients.specs.PartlyDone.{TakesPartly};
 use crate::agents::place_of;
 use crate::posting::post;
 use ais_values::Seq;
-use client_agent::{Agent, MissedWhy, Taken};
+use client_agent::{Agent, MissedWhy, Taken, let_taken_go};
 use cluster_events::Why;
 use event_text::{put_ignored, put_reply};
 use message_net::Net;
@@ -151,7 +151,7 @@ fn tell_taken(
     ensures err { OnErr result (MayPost taken net.old net.new) }
 {
     let told = tell(alloc, net, lines, place, client, &taken);
-    mem::drop(taken);
+    let_taken_go(taken);
     told
 }
 

@@ -19,7 +19,7 @@ use calls::History;
 use cluster_clients::EventAnswer;
 use disk_model::{DiskAnswer, SharedDisk};
 use message_net::Net;
-use mirror::{Node, Role};
+use mirror::{Node, Role, let_heard_go, let_node_go};
 use script::well_attrs;
 use script_lines::{Line, WellOptions};
 use service_core::Service;
@@ -62,11 +62,11 @@ pub fn start_active(
             let mut node = Node::start(alloc, Role::Active, service);
             match node.begin_join(alloc) {
                 Ok(heard) => {
-                    mem::drop(heard);
+                    let_heard_go(heard);
                     Ok((node, deeds))
                 }
                 Err(error) => {
-                    mem::drop(node);
+                    let_node_go(node);
                     mem::drop(deeds);
                     Err(error)
                 }
@@ -113,7 +113,7 @@ fn start_both(
         Ok((active, deeds)) => match start_standby(alloc, start, queue, same) {
             Ok(standby) => Ok((active, standby, deeds)),
             Err(error) => {
-                mem::drop(active);
+                let_node_go(active);
                 mem::drop(deeds);
                 Err(error)
             }
@@ -216,11 +216,11 @@ impl World {
         };
         match perform(disk, &deeds) {
             Ok(()) => {
-                mem::drop(mem::replace(self, world));
+                mem::replace(self, world).end();
                 Ok(())
             }
             Err(answer) => {
-                mem::drop(world);
+                world.end();
                 Err(unbegun(alloc, answer))
             }
         }

@@ -19,7 +19,7 @@ use calls::History;
 use cluster_lines::play;
 use cluster_rounds::Cluster;
 use disk_model::{DiskAnswer, NoDisk, SharedDisk};
-use group_servers::{Group, Seat};
+use group_servers::{Group, Seat, let_seat_go};
 use message_net::Net;
 use mirror::{Node, Role};
 use script_lines::{Line, Server};
@@ -110,10 +110,10 @@ fn other_seat(acting: Server, seats: [Seat; 2]) -> Seat
 {
     let [one, other] = seats;
     if is_first(acting) {
-        mem::drop(one);
+        let_seat_go(one);
         other
     } else {
-        mem::drop(other);
+        let_seat_go(other);
         one
     }
 }
@@ -210,6 +210,6 @@ pub(crate) fn play_whole<R: Threads + Wait + Sync, D: SharedDisk, G: Gate>(
     let mut parts = take_parts(alloc, world);
     let mut beside = NoDisk::new();
     let played = play(rt, alloc, &mut parts, lines, line, disk, &mut beside, gate);
-    mem::drop(mem::replace(world, put_parts(parts)));
+    mem::replace(world, put_parts(parts)).end();
     played
 }

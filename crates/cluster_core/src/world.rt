@@ -3,13 +3,13 @@ ghost use Rattle.std.specs.Prelude.{◌≡◌};
 ghost use Rattle.cluster_core.specs.Worlds.{empty_world};
 
 use ais_values::Seq;
-use calls::History;
-use client_agent::Agent;
+use calls::{History, let_history_go};
+use client_agent::{Agent, let_agents_go};
 use message_net::Net;
-use mirror::Node;
+use mirror::{Node, let_node_go};
 use std::alloc::Global;
 use std::mem;
-use wire::Message;
+use wire::{Message, let_messages_go};
 
 /// Two servers with the lists of messages between them, the net, the clients' agents by rising client, and what was committed.
 ///
@@ -50,6 +50,24 @@ impl World {
 
     /// Lets the world go, with all that it holds, at one place for all who have one.
     pub fn end(self) {
-        mem::drop(self);
+        let World {
+            a,
+            b,
+            link,
+            back,
+            net,
+            agents,
+            history,
+            now: _,
+            armed: _,
+            callbacks: _,
+        } = self;
+        let_node_go(a);
+        let_node_go(b);
+        let_messages_go(link);
+        let_messages_go(back);
+        mem::drop(net);
+        let_agents_go(agents);
+        let_history_go(history);
     }
 }

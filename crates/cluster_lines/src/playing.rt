@@ -20,9 +20,9 @@ use cluster_rounds::{Cluster, deliver, dispatch, inject, resend, settle};
 use disk_model::{DiskAnswer, SharedDisk};
 use script_lines::Line;
 use std::alloc::{AllocError, Global};
-use std::mem;
 use std::sync::Wait;
 use std::thread::Threads;
+use wire::let_messages_go;
 
 /// The byte string of a line's number is delivered. The line is refused where the net has none of that number.
 fn deliver_line<R: Wait, S: Scripted>(
@@ -71,7 +71,7 @@ fn push_line<S: Scripted>(
     }
     match S::push(alloc, world, lines) {
         Ok(items) => {
-            mem::drop(items);
+            let_messages_go(items);
             Ok(())
         }
         Err(error) => Err(error),

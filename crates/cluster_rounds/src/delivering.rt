@@ -13,9 +13,8 @@ use cluster_clients::{Fetched, fetch, take};
 use cluster_events::Why;
 use event_text::put_ignored;
 use std::alloc::{AllocError, Global};
-use std::mem;
 use std::sync::Wait;
-use wire::Message;
+use wire::{Message, let_message_go};
 
 /// Whether the message is a reply or an item, which are for an agent.
 fn is_for_agent(message: &Message) -> bool
@@ -106,7 +105,7 @@ fn deliver_fetched<R: Wait, S: Serving>(
     match fetched {
         Fetched::Whole { message } => {
             let done = deliver_message(rt, alloc, world, lines, place, &message);
-            mem::drop(message);
+            let_message_go(Some(message));
             done
         }
         Fetched::Bad { front, why } => put_ignored(alloc, lines, place, Why::Bad { front, why }),

@@ -9,8 +9,7 @@ use crate::{Cluster, Serving};
 use ais_values::Seq;
 use cluster_clients::{number_in, place_of};
 use std::alloc::{AllocError, Global};
-use std::mem;
-use wire::Message;
+use wire::{Message, let_messages_go};
 
 /// The active server hears these messages, from the first on.
 fn hear_all<S: Serving>(
@@ -55,7 +54,7 @@ pub fn resend<S: Serving>(
     match world.agents.as_slice()[at].resend(alloc) {
         Ok(messages) => {
             let heard = hear_all(alloc, world, lines, messages.as_slice());
-            mem::drop(messages);
+            let_messages_go(messages);
             heard
         }
         Err(error) => Err(error),

@@ -16,9 +16,8 @@ use ais_values::Seq;
 use cluster_clients::{clients_of, place_of, reply_to, sent_again};
 use disk_model::{DiskAnswer, SharedDisk};
 use std::alloc::{AllocError, Global};
-use std::mem;
 use std::sync::Wait;
-use wire::Message;
+use wire::{Message, let_message_go, let_messages_go};
 
 /// Puts lines behind others where they are to be kept.
 fn keep_lines(
@@ -104,7 +103,7 @@ fn take_owned<R: Wait, S: Serving>(
     ensures wild { OnOk result (KeepsWild S.kit (Posted message) world.old world.new) }
 {
     let taken = take(rt, alloc, world, lines, &message);
-    mem::drop(message);
+    let_message_go(Some(message));
     taken
 }
 
@@ -254,7 +253,7 @@ fn turn_client<R: Wait, S: Serving, D: SharedDisk, J: SharedDisk>(
     match sent_again(alloc, world.agents.as_slice(), at) {
         Ok(messages) => {
             let turned = turn_all(rt, alloc, world, lines, disk, beside, messages.as_slice());
-            mem::drop(messages);
+            let_messages_go(messages);
             turned
         }
         Err(_) => Err(DiskAnswer::Memory),
@@ -365,7 +364,7 @@ fn push_round<R: Wait, S: Serving>(
     match S::push(alloc, world, lines) {
         Ok(items) => {
             let taken = take_items(rt, alloc, world, lines, items.as_slice());
-            mem::drop(items);
+            let_messages_go(items);
             taken
         }
         Err(error) => Err(error),

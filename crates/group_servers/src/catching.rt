@@ -8,9 +8,9 @@ use crate::Seat;
 use ais_values::Seq;
 use calls::{Entry, History};
 use lead_server::{put_waiting, take_first};
-use mirror::{Node, Role};
+use mirror::{Node, Role, let_heard_go};
 use std::alloc::{AllocError, Global};
-use std::mem;
+use wire::let_message_go;
 
 /// A standby to which an entry goes applies it. Where memory runs out, or 4,000,000,000 entries were accepted, nothing is said of it.
 fn catch_one(alloc: Global, seat: &mut Seat, now: i64) -> Result<(), AllocError>
@@ -26,14 +26,14 @@ fn catch_one(alloc: Global, seat: &mut Seat, now: i64) -> Result<(), AllocError>
         None => return Ok(()),
     };
     if !seat.node.has_room() {
-        mem::drop(message);
+        let_message_go(Some(message));
         return Err(AllocError);
     }
     let received = seat.node.receive(alloc, &message, now);
-    mem::drop(message);
+    let_message_go(Some(message));
     match received {
         Ok(heard) => {
-            mem::drop(heard);
+            let_heard_go(heard);
             Ok(())
         }
         Err(error) => Err(error),

@@ -14,8 +14,7 @@ use cluster_rounds::Cluster;
 use lead_server::{confirm, take_first};
 use mirror::Node;
 use std::alloc::{AllocError, Global};
-use std::mem;
-use wire::Message;
+use wire::{Message, let_message_go};
 
 /// Takes the first message on the way back from the first server from which one is, if there is one.
 fn take_back(alloc: Global, seats: &mut [Seat]) -> Option<Message>
@@ -75,7 +74,7 @@ pub(crate) fn ack<const N: usize>(
         &message,
         now,
     );
-    mem::drop(message);
+    let_message_go(Some(message));
     match confirmed {
         Ok(()) => Ok(true),
         Err(error) => Err(error),

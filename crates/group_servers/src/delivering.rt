@@ -13,7 +13,7 @@ ghost use Rattle.group_servers.specs.Steps.{StepsBy};
 use crate::seats::{any_goes, any_link};
 use crate::{Group, Seat};
 use ais_values::Seq;
-use calls::{Entry, History};
+use calls::{Entry, History, let_entry_go};
 use cluster_events::ServerRole;
 use cluster_rounds::Cluster;
 use event_text::put_server;
@@ -21,8 +21,7 @@ use lead_server::{commit, send_all, take_first};
 use mirror::{Heard, Node, Outcome};
 use script_lines::Server;
 use std::alloc::{AllocError, Global};
-use std::mem;
-use wire::Message;
+use wire::{Message, let_message_go, let_messages_go};
 
 /// Adds the line of a server that joined.
 fn put_joined(
@@ -67,18 +66,18 @@ fn tell_delivered(
         committed,
         outcome,
     } = heard;
-    mem::drop(to_net);
+    let_messages_go(to_net);
     let told = match put_joined(alloc, lines, server, outcome) {
         Ok(()) => send_all(alloc, back, to_peer),
         Err(error) => {
-            mem::drop(to_peer);
+            let_messages_go(to_peer);
             Err(error)
         }
     };
     match told {
         Ok(()) => Ok(committed),
         Err(error) => {
-            mem::drop(committed);
+            let_entry_go(committed);
             Err(error)
         }
     }
@@ -99,7 +98,7 @@ pub(crate) fn deliver_to(
         None => return Ok(None),
     };
     let received = receive(alloc, &mut seat.node, &message, now);
-    mem::drop(message);
+    let_message_go(Some(message));
     match received {
         Ok(heard) => match tell_delivered(alloc, seat.server, &mut seat.back, lines, heard) {
             Ok(committed) => Ok(Some(committed)),
@@ -145,13 +144,13 @@ pub(crate) fn commit_applied(
     ensures err { OnErr result (history.new.entries ≡ history.old.entries) }
 {
     if goes {
-        mem::drop(committed);
+        let_entry_go(committed);
         return Ok(());
     }
     match history.reserve() {
         Ok(()) => commit(alloc, history, lines, committed),
         Err(error) => {
-            mem::drop(committed);
+            let_entry_go(committed);
             Err(error)
         }
     }

@@ -10,8 +10,7 @@ use crate::spreading::spread_first;
 use ais_values::Seq;
 use cluster_rounds::Cluster;
 use std::alloc::{AllocError, Global};
-use std::mem;
-use wire::Message;
+use wire::{Message, let_messages_go};
 
 /// Delivers a request or a receipt of this place in the net to the active server. Where 4,000,000,000 entries were accepted it answers
 /// as if memory ran out.
@@ -44,7 +43,7 @@ pub(crate) fn hear<const N: usize>(
     match heard {
         Ok(mirrored) => {
             let spread = spread_first(alloc, &mut world.servers.seats, mirrored.as_slice());
-            mem::drop(mirrored);
+            let_messages_go(mirrored);
             spread
         }
         Err(error) => Err(error),

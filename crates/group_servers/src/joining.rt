@@ -13,6 +13,7 @@ use crate::seats::{any_standby, is_down_at, same_server};
 use crate::standing::refused;
 use crate::{Group, Seat};
 use ais_values::Seq;
+use calls::let_entry_go;
 use cluster_events::ServerRole;
 use cluster_rounds::Cluster;
 use disk_model::SharedDisk;
@@ -22,7 +23,7 @@ use mirror::{Heard, Node};
 use script_lines::{Line, Server};
 use std::alloc::{AllocError, Global};
 use std::mem;
-use wire::Message;
+use wire::{Message, let_messages_go};
 
 /// Whether a server is the active one and some other one is standby.
 pub(crate) fn leads<const N: usize>(servers: &Group<N>, server: Server) -> bool
@@ -90,8 +91,8 @@ fn begin(alloc: Global, active: &mut Node) -> Result<Seq<Message>, AllocError>
                 committed,
                 ..
             } = heard;
-            mem::drop(to_net);
-            mem::drop(committed);
+            let_messages_go(to_net);
+            let_entry_go(committed);
             Ok(to_peer)
         }
         Err(error) => Err(error),
@@ -103,11 +104,11 @@ fn join_at(alloc: Global, seats: &mut [Seat], server: Server, messages: Seq<Mess
     ensures { seats.new ≡ joined_at server messages seats.old }
 {
     match seats.split_first_mut() {
-        None => mem::drop(messages),
+        None => let_messages_go(messages),
         Some((first, rest)) => {
             if same_server(server, first.server) {
                 go_joining(alloc, &mut first.node);
-                mem::drop(mem::replace(&mut first.link, messages));
+                let_messages_go(mem::replace(&mut first.link, messages));
             } else {
                 join_at(alloc, rest, server, messages);
             }

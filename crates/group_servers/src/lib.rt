@@ -7,6 +7,7 @@ mod confirming;
 mod crashing;
 mod delivering;
 mod falling;
+mod going;
 mod group;
 mod hearing;
 mod joining;
@@ -26,6 +27,7 @@ mod telling;
 mod working;
 
 pub use crashing::crash;
+pub use going::let_seat_go;
 pub use group::{Group, Seat};
 pub use joining::{arm, disarm, restart};
 pub use lines::{ack_line, mirror_line};

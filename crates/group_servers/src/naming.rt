@@ -19,8 +19,7 @@ use cluster_rounds::Cluster;
 use lead_server::take_first;
 use script_lines::Server;
 use std::alloc::{AllocError, Global};
-use std::mem;
-use wire::Message;
+use wire::{Message, let_message_go};
 
 /// Delivers the first message on the way to the server of this name, if there is one. Answers with the entry that it applied, if it did.
 fn deliver_named(
@@ -118,7 +117,7 @@ pub fn ack_at<const N: usize>(
         &message,
         now,
     );
-    mem::drop(message);
+    let_message_go(Some(message));
     match confirmed {
         Ok(()) => Ok(true),
         Err(error) => Err(error),

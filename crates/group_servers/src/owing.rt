@@ -4,10 +4,11 @@ ghost use Rattle.mirror.specs.declared.heard.Role.TheVariants.{Active};
 ghost use Rattle.group_servers.specs.Owing.{is_owed, LinksOne, LinksAll};
 
 use crate::Seat;
+use calls::let_entry_go;
 use lead_server::send_all;
 use mirror::{Heard, Node, Role};
 use std::alloc::{AllocError, Global};
-use std::mem;
+use wire::let_messages_go;
 
 /// Whether the value of the service is owed to a server: it joins, and nothing is on the way to it.
 fn is_owed(seat: &Seat) -> bool
@@ -36,8 +37,8 @@ fn link_one(alloc: Global, active: &mut Node, seat: &mut Seat) -> Result<(), All
                 committed,
                 ..
             } = heard;
-            mem::drop(to_net);
-            mem::drop(committed);
+            let_messages_go(to_net);
+            let_entry_go(committed);
             send_all(alloc, &mut seat.link, to_peer)
         }
         Err(error) => Err(error),

@@ -15,16 +15,16 @@ use crate::catching::push_caught;
 use crate::seats::{any_goes, any_linked, same_server, still_waits};
 use crate::{Group, Seat};
 use ais_values::Seq;
-use calls::Entry;
+use calls::{Entry, let_entry_go};
 use cluster_events::ServerRole;
 use cluster_rounds::Cluster;
 use event_text::{put_entry, put_server};
 use lead_server::{clear, go_down};
-use mirror::Node;
+use mirror::{Node, let_heard_go};
 use script_lines::Server;
 use std::alloc::{AllocError, Global};
 use std::mem;
-use wire::Message;
+use wire::{Message, let_message_go, let_messages_go};
 
 /// Takes the last message, if there is one, and lets the others go.
 fn take_last(alloc: Global, list: &mut Seq<Message>) -> Option<Message>
@@ -33,7 +33,7 @@ fn take_last(alloc: Global, list: &mut Seq<Message>) -> Option<Message>
 {
     let mut items = mem::replace(list, Seq::new(alloc)).into_vec();
     let last = items.pop();
-    mem::drop(items);
+    let_messages_go(Seq::from_vec(items));
     last
 }
 
@@ -60,13 +60,13 @@ fn lost_entry(goes: bool, lost: Option<Message>) -> Option<(u64, Entry)>
     ensures { result ≡ lost_entry goes lost }
 {
     if goes {
-        mem::drop(lost);
+        let_message_go(lost);
         return None;
     }
     match lost {
         Some(Message::Mirror { number, entry }) => Some((number, entry)),
         other => {
-            mem::drop(other);
+            let_message_go(other);
             None
         }
     }
@@ -105,7 +105,7 @@ fn put_parted(
         Some((number, entry)) => match put_both(alloc, lines, number, &entry, server) {
             Ok(()) => Ok(Some(entry)),
             Err(error) => {
-                mem::drop(entry);
+                let_entry_go(Some(entry));
                 Err(error)
             }
         },
@@ -120,11 +120,11 @@ fn settle(alloc: Global, active: &mut Node, seats: &[Seat])
         active.old }
 {
     if !any_linked(seats) {
-        mem::drop(active.peer_down(alloc));
+        let_heard_go(active.peer_down(alloc));
         return;
     }
     if !still_waits(seats) {
-        mem::drop(active.take_waiting());
+        let_entry_go(active.take_waiting());
     }
 }
 

@@ -11,12 +11,13 @@ ghost use Rattle.group_servers.specs.Falls.{wayless, all_wayless, Exchanges};
 
 use crate::Seat;
 use crate::seats::any_up;
+use calls::let_entry_go;
 use lead_server::{clear, take_first};
-use mirror::{Heard, Node, Role};
+use mirror::{Heard, Node, Role, let_heard_go, let_node_go};
 use script_lines::Server;
 use std::alloc::{AllocError, Global};
 use std::mem;
-use wire::Message;
+use wire::{Message, let_message_go, let_messages_go};
 
 /// Nothing is on the way to a server or back.
 fn drop_way(alloc: Global, seat: &mut Seat)
@@ -79,13 +80,13 @@ fn rejoin_one(
     let mut node = Node::joining(alloc);
     match node.receive(alloc, snapshot, now) {
         Ok(heard) => {
-            mem::drop(heard);
-            mem::drop(mem::replace(&mut seat.node, node));
+            let_heard_go(heard);
+            let_node_go(mem::replace(&mut seat.node, node));
             drop_way(alloc, seat);
             Ok(())
         }
         Err(error) => {
-            mem::drop(node);
+            let_node_go(node);
             Err(error)
         }
     }
@@ -134,15 +135,15 @@ pub(crate) fn rejoin(
                 committed,
                 ..
             } = heard;
-            mem::drop(to_net);
-            mem::drop(committed);
+            let_messages_go(to_net);
+            let_entry_go(committed);
             let first = take_first(alloc, &mut to_peer);
-            mem::drop(to_peer);
+            let_messages_go(to_peer);
             match first {
                 None => Ok(()),
                 Some(snapshot) => {
                     let joined = rejoin_all(alloc, seats, &snapshot, now);
-                    mem::drop(snapshot);
+                    let_message_go(Some(snapshot));
                     joined
                 }
             }

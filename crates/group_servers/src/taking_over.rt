@@ -6,9 +6,8 @@ ghost use Rattle.group_servers.specs.Tries.{takes, Tries, TriesOne, TriesPartly,
 
 use crate::Seat;
 use disk_model::{DiskAnswer, SharedDisk};
-use mirror::Role;
+use mirror::{Role, let_heard_go};
 use std::alloc::Global;
-use std::mem;
 
 /// Whether a standby may take over: where some keeps no deeds, one of those.
 pub(crate) fn takes(fresh: bool, seat: &Seat) -> bool
@@ -32,7 +31,7 @@ fn try_one<D: SharedDisk>(alloc: Global, seat: &mut Seat, disk: &mut D) -> Resul
 {
     match seat.node.takeover(alloc, disk) {
         Ok(heard) => {
-            mem::drop(heard);
+            let_heard_go(heard);
             Ok(true)
         }
         Err(DiskAnswer::Memory) => Err(DiskAnswer::Memory),

@@ -25,7 +25,7 @@ use lead_server::tell_worked;
 use message_net::Net;
 use mirror::{Heard, Node};
 use std::alloc::{AllocError, Global};
-use std::mem;
+use wire::let_messages_go;
 
 /// Posts what a server that worked asks for, and sends each server that joins the value of the service.
 fn tell_done(
@@ -45,7 +45,7 @@ fn tell_done(
 {
     match tell_worked(alloc, net, lines, heard) {
         Ok(promised) => {
-            mem::drop(promised);
+            let_messages_go(promised);
             link_all(alloc, active, seats)
         }
         Err(error) => Err(error),

@@ -14,10 +14,10 @@ ghost use Rattle.journal_start.specs.Starts.{bytes_in, told_as, HasStarted, Hold
 use crate::Journal;
 use crate::replaying::{ReplayAnswer, Replayed, replay};
 use ais_values::Seq;
-use calls::Entry;
+use calls::{Entry, let_entries_go};
 use disk_model::{DiskAnswer, DiskFault, SharedDisk};
 use journal_frames::mend;
-use mirror::Node;
+use mirror::{Node, let_heard_go, let_node_go};
 use std::alloc::Global;
 
 /// The name of a journal's file.
@@ -136,7 +136,7 @@ fn start<D: SharedDisk>(alloc: Global, replayed: Replayed, disk: &mut D) -> Resu
     } = replayed;
     match node.takeover(alloc, disk) {
         Ok(heard) => {
-            drop(heard);
+            let_heard_go(heard);
             Ok(Cold {
                 journal: Journal { end: place, number },
                 node,
@@ -144,8 +144,8 @@ fn start<D: SharedDisk>(alloc: Global, replayed: Replayed, disk: &mut D) -> Resu
             })
         }
         Err(answer) => {
-            drop(node);
-            drop(entries);
+            let_node_go(node);
+            let_entries_go(entries);
             Err(answer_of(answer))
         }
     }
@@ -180,7 +180,15 @@ fn mend_and_start<J: SharedDisk, D: SharedDisk>(
     match mend(journal, replayed.place, replayed.closed) {
         Ok(()) => start(alloc, replayed, disk),
         Err(answer) => {
-            drop(replayed);
+            let Replayed {
+                node,
+                entries,
+                place: _,
+                number: _,
+                closed: _,
+            } = replayed;
+            let_node_go(node);
+            let_entries_go(entries);
             Err(answer_of(answer))
         }
     }

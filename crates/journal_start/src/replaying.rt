@@ -11,7 +11,7 @@ use calls::Entry;
 use journal_frames::read_frame;
 use mirror::{Heard, Node};
 use std::alloc::{AllocError, Global};
-use wire::{Message, WireAnswer, decode};
+use wire::{Message, WireAnswer, decode, let_message_go, let_messages_go};
 
 /// What a journal's bytes tell: the server that follows them as standby, the entries in order, the place of the gate behind the last of
 /// them, how many entries the service has, and whether the gate is closed.
@@ -59,7 +59,7 @@ fn read_next(alloc: Global, node: &Node, text: &[u8]) -> Result<Option<Message>,
     if node.admits(alloc, &message)? {
         Ok(Some(message))
     } else {
-        drop(message);
+        let_message_go(Some(message));
         Ok(None)
     }
 }
@@ -77,8 +77,8 @@ fn take_next(alloc: Global, node: &mut Node, message: &Message) -> Result<Option
         committed,
         outcome: _,
     } = heard;
-    drop(to_net);
-    drop(to_peer);
+    let_messages_go(to_net);
+    let_messages_go(to_peer);
     Ok(committed)
 }
 
@@ -116,12 +116,12 @@ fn follow(
     let entry = match take_next(alloc, node, &message) {
         Ok(entry) => entry,
         Err(error) => {
-            drop(message);
+            let_message_go(Some(message));
             return Err(error);
         }
     };
     *number = number_behind(&message);
-    drop(message);
+    let_message_go(Some(message));
     match add(entries, entry) {
         Ok(()) => Ok(true),
         Err(error) => Err(error),

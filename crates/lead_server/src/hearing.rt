@@ -11,10 +11,9 @@ use ais_values::Seq;
 use calls::History;
 use cluster_clients::post_all;
 use message_net::Net;
-use mirror::Node;
+use mirror::{Node, let_heard_go};
 use std::alloc::{AllocError, Global};
-use std::mem;
-use wire::Message;
+use wire::{Message, let_messages_go};
 
 /// The active server hears a message of this place in the net. The answer to it is posted, its line is put where it was ignored, and an entry
 /// that waits for nobody is committed. What goes to the servers beside it comes back. Where 4,000,000,000 entries were accepted it answers as
@@ -61,7 +60,7 @@ pub fn confirm(
     }
     match active.receive(alloc, message, now) {
         Ok(heard) => {
-            mem::drop(heard);
+            let_heard_go(heard);
             Ok(())
         }
         Err(error) => Err(error),
@@ -88,7 +87,7 @@ pub fn push(
     match post_all(alloc, net, lines, items.as_slice()) {
         Ok(()) => Ok(items),
         Err(error) => {
-            mem::drop(items);
+            let_messages_go(items);
             Err(error)
         }
     }

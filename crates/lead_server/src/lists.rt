@@ -5,7 +5,7 @@ ghost use Rattle.lead_server.specs.Told.{TakesFirst};
 use ais_values::Seq;
 use std::alloc::{AllocError, Global};
 use std::mem;
-use wire::Message;
+use wire::{Message, let_messages_go};
 
 /// Adds messages behind those on the way. Where memory runs out nothing is said of these.
 pub fn send_all(
@@ -18,8 +18,8 @@ pub fn send_all(
     let mut items = mem::replace(list, Seq::new(alloc)).into_vec();
     let mut more = messages.into_vec();
     let added = items.append(&mut more);
-    mem::drop(more);
-    mem::drop(mem::replace(list, Seq::from_vec(items)));
+    let_messages_go(Seq::from_vec(more));
+    let_messages_go(mem::replace(list, Seq::from_vec(items)));
     added
 }
 
@@ -29,11 +29,11 @@ pub fn take_first(alloc: Global, list: &mut Seq<Message>) -> Option<Message>
 {
     let mut items = mem::replace(list, Seq::new(alloc)).into_vec();
     if items.is_empty() {
-        mem::drop(items);
+        let_messages_go(Seq::from_vec(items));
         return None;
     }
     let first = items.remove(0);
-    mem::drop(mem::replace(list, Seq::from_vec(items)));
+    let_messages_go(mem::replace(list, Seq::from_vec(items)));
     Some(first)
 }
 
@@ -41,5 +41,5 @@ pub fn take_first(alloc: Global, list: &mut Seq<Message>) -> Option<Message>
 pub fn clear(alloc: Global, list: &mut Seq<Message>)
     ensures { list.new ≡ [] }
 {
-    mem::drop(mem::replace(list, Seq::new(alloc)));
+    let_messages_go(mem::replace(list, Seq::new(alloc)));
 }

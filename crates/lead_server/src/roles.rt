@@ -5,7 +5,7 @@ ghost use Rattle.mirror.specs.Pairing.{alone, joining};
 ghost use Rattle.lead_server.specs.Roles.{stands_by, stays_down, role_shown};
 
 use cluster_events::ServerRole;
-use mirror::{Node, Role};
+use mirror::{Node, Role, let_node_go};
 use std::alloc::Global;
 use std::mem;
 
@@ -51,12 +51,12 @@ pub fn role_shown(armed: bool, role: Role) -> ServerRole
 pub fn go_down(node: &mut Node)
     ensures { node.new ≡ alone down }
 {
-    mem::drop(mem::replace(node, Node::down()));
+    let_node_go(mem::replace(node, Node::down()));
 }
 
 /// A server comes back, and waits for the value of the service; what it had is let go.
 pub fn go_joining(alloc: Global, node: &mut Node)
     ensures { node.new ≡ alone joining }
 {
-    mem::drop(mem::replace(node, Node::joining(alloc)));
+    let_node_go(mem::replace(node, Node::joining(alloc)));
 }

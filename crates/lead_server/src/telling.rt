@@ -6,15 +6,14 @@ ghost use Rattle.cluster_clients.specs.Posted.{PostsAll, PostsSome};
 ghost use Rattle.lead_server.specs.Told.{Commits, IsTold, reason_of, outcome_lines};
 
 use ais_values::Seq;
-use calls::{Entry, History};
+use calls::{Entry, History, let_entry_go};
 use cluster_clients::post_all;
 use cluster_events::Why;
 use event_text::{put_entry, put_ignored};
 use message_net::Net;
 use mirror::{Heard, Outcome, Why as Reason};
 use std::alloc::{AllocError, Global};
-use std::mem;
-use wire::Message;
+use wire::{Message, let_messages_go};
 
 /// The history takes fewer entries than this.
 const ENTRIES: u64 = 4_000_000_000;
@@ -64,7 +63,7 @@ fn commit_one(
 {
     let count = history.len();
     if count >= ENTRIES {
-        mem::drop(entry);
+        let_entry_go(Some(entry));
         return Err(AllocError);
     }
     match put_entry(alloc, lines, count + 1, &entry) {
@@ -73,7 +72,7 @@ fn commit_one(
             Ok(())
         }
         Err(error) => {
-            mem::drop(entry);
+            let_entry_go(Some(entry));
             Err(error)
         }
     }
@@ -122,7 +121,7 @@ pub(crate) fn tell_heard(
         outcome,
     } = heard;
     let posted = post_all(alloc, net, lines, to_net.as_slice());
-    mem::drop(to_net);
+    let_messages_go(to_net);
     let told = match posted {
         Ok(()) => put_outcome(alloc, lines, place, outcome),
         Err(error) => Err(error),
@@ -130,14 +129,14 @@ pub(crate) fn tell_heard(
     let done = match told {
         Ok(()) => commit(alloc, history, lines, committed),
         Err(error) => {
-            mem::drop(committed);
+            let_entry_go(committed);
             Err(error)
         }
     };
     match done {
         Ok(()) => Ok(to_peer),
         Err(error) => {
-            mem::drop(to_peer);
+            let_messages_go(to_peer);
             Err(error)
         }
     }
@@ -163,13 +162,13 @@ pub fn tell_worked(
         committed,
         ..
     } = heard;
-    mem::drop(committed);
+    let_entry_go(committed);
     let posted = post_all(alloc, net, lines, to_net.as_slice());
-    mem::drop(to_net);
+    let_messages_go(to_net);
     match posted {
         Ok(()) => Ok(to_peer),
         Err(error) => {
-            mem::drop(to_peer);
+            let_messages_go(to_peer);
             Err(error)
         }
     }

@@ -12,8 +12,7 @@ use calls::Entry;
 use disk_model::{DiskAnswer, SharedDisk};
 use lead_server::{send_all, take_first};
 use std::alloc::{AllocError, Global};
-use std::mem;
-use wire::Message;
+use wire::{Message, let_message_go};
 
 /// The number and the entry that a message brings, if it mirrors one.
 pub fn mirrored(message: Message) -> Option<(u64, Entry)>
@@ -22,7 +21,7 @@ pub fn mirrored(message: Message) -> Option<(u64, Entry)>
     match message {
         Message::Mirror { number, entry } => Some((number, entry)),
         other => {
-            mem::drop(other);
+            let_message_go(Some(other));
             None
         }
     }
@@ -57,7 +56,7 @@ pub fn append_first<J: SharedDisk>(
     match servers.journal.append(alloc, beside, &message) {
         Ok(()) => Ok(Some(message)),
         Err(answer) => {
-            mem::drop(message);
+            let_message_go(Some(message));
             Err(answer)
         }
     }
@@ -70,7 +69,7 @@ fn one(alloc: Global, message: Message) -> Result<Seq<Message>, AllocError>
     let mut messages = match Vec::with_capacity(alloc, 1) {
         Ok(messages) => messages,
         Err(error) => {
-            mem::drop(message);
+            let_message_go(Some(message));
             return Err(error);
         }
     };

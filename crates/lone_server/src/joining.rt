@@ -10,14 +10,13 @@ ghost use Rattle.lone_server.specs.Joining.{CommitsJoined, CommitsOrNot, JoinBre
 use crate::appending::{append_first, mirrored, put_back};
 use crate::{Lone, fall};
 use ais_values::Seq;
-use calls::{Entry, History};
+use calls::{Entry, History, let_entry_go};
 use cluster_events::ServerRole;
 use disk_model::{DiskAnswer, SharedDisk};
 use event_text::put_server;
 use lead_server::commit;
 use script_lines::Server;
 use std::alloc::{AllocError, Global};
-use std::mem;
 use wire::Message;
 
 /// Whether there are no messages.
@@ -45,7 +44,7 @@ fn commit_one(
     match history.reserve() {
         Ok(()) => {}
         Err(error) => {
-            mem::drop(entry);
+            let_entry_go(Some(entry));
             return Err(error);
         }
     }

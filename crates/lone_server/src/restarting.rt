@@ -11,13 +11,13 @@ ghost use Rattle.lone_server.specs.Restarting.{linked, new_lines, ComesBack, Ins
 
 use crate::Lone;
 use ais_values::Seq;
-use calls::{Entry, History};
+use calls::{Entry, History, let_entries_go, let_entry_go, let_history_go};
 use cluster_events::ServerRole;
 use disk_model::SharedDisk;
 use event_text::{put_entry, put_server};
 use journal_start::{Cold, ColdAnswer, cold_start};
 use lead_server::confirm;
-use mirror::Node;
+use mirror::{Node, let_heard_go, let_node_go};
 use script_lines::Server;
 use std::alloc::{AllocError, Global};
 use std::mem;
@@ -55,13 +55,13 @@ fn take_one(
 {
     let count = history.len();
     if count >= ENTRIES {
-        mem::drop(entry);
+        let_entry_go(Some(entry));
         return Err(AllocError);
     }
     match history.reserve() {
         Ok(()) => {}
         Err(error) => {
-            mem::drop(entry);
+            let_entry_go(Some(entry));
             return Err(error);
         }
     }
@@ -71,7 +71,7 @@ fn take_one(
             Ok(())
         }
         Err(error) => {
-            mem::drop(entry);
+            let_entry_go(Some(entry));
             Err(error)
         }
     }
@@ -108,7 +108,7 @@ fn tell_found(
         Ok(found) => match put_server(alloc, lines, Server::A, ServerRole::Active) {
             Ok(()) => Ok(found),
             Err(error) => {
-                mem::drop(found);
+                let_history_go(found);
                 Err(error)
             }
         },
@@ -124,7 +124,7 @@ pub fn link_journal(alloc: Global, node: &mut Node, number: u64) -> Result<(), A
     ensures { OnOk result (node.new ≡ linked node.old) }
 {
     match node.begin_join(alloc) {
-        Ok(heard) => mem::drop(heard),
+        Ok(heard) => let_heard_go(heard),
         Err(error) => return Err(error),
     }
     confirm(alloc, node, &Message::JoinAck { number }, 0)
@@ -153,20 +153,20 @@ fn install(
     match link_journal(alloc, &mut node, journal.number) {
         Ok(()) => {}
         Err(error) => {
-            mem::drop(entries);
-            mem::drop(node);
+            let_entries_go(entries);
+            let_node_go(node);
             return Err(error);
         }
     }
     match tell_found(alloc, lines, history.len(), entries) {
         Ok(found) => {
-            mem::drop(mem::replace(history, found));
-            mem::drop(mem::replace(&mut servers.node, node));
+            let_history_go(mem::replace(history, found));
+            let_node_go(mem::replace(&mut servers.node, node));
             servers.journal = journal;
             Ok(())
         }
         Err(error) => {
-            mem::drop(node);
+            let_node_go(node);
             Err(error)
         }
     }

@@ -17,7 +17,7 @@ use lead_server::{confirm, take_first, tell_worked};
 use message_net::Net;
 use script_lines::Server;
 use std::alloc::{AllocError, Global};
-use std::mem;
+use wire::{let_message_go, let_messages_go};
 
 /// The entry in hand is worked, which is ready: its deeds are done, and its reply is posted.
 ///
@@ -57,7 +57,7 @@ pub fn work_entry<D: SharedDisk, J: SharedDisk>(
             lines.truncate(base);
             match tell_worked(alloc, net, lines, heard) {
                 Ok(promised) => {
-                    mem::drop(promised);
+                    let_messages_go(promised);
                     Ok(())
                 }
                 Err(_) => Err(DiskAnswer::Memory),
@@ -88,11 +88,11 @@ pub fn hear_back(alloc: Global, servers: &mut Lone, now: i64) -> Result<bool, Al
     };
     match confirm(alloc, &mut servers.node, &message, now) {
         Ok(()) => {
-            mem::drop(message);
+            let_message_go(Some(message));
             Ok(true)
         }
         Err(error) => {
-            mem::drop(message);
+            let_message_go(Some(message));
             Err(error)
         }
     }

@@ -1,6 +1,7 @@
 //! A server of the cluster: it hears requests and receipts, does the deeds of the entry in hand, and pushes items.
 #![tactic(auto)]
 
+mod going;
 mod heard;
 mod hearing;
 mod node;
@@ -10,5 +11,6 @@ mod parts;
 mod replica;
 mod state;
 
+pub use going::{let_heard_go, let_node_go};
 pub use heard::{Heard, Outcome, Role, Why};
 pub use node::Node;

@@ -4,6 +4,7 @@
 mod call;
 mod code;
 mod envelope;
+mod going;
 mod law;
 mod list;
 mod log;
@@ -16,5 +17,6 @@ mod text;
 mod wire;
 
 pub use code::{decode, encode};
+pub use going::{let_message_go, let_messages_go};
 pub use law::{law_of_equality, law_of_spellings};
 pub use message::{Message, WireAnswer, WireWhy};
