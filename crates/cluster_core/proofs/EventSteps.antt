@@ -16,6 +16,7 @@ use Rattle.cluster_facts.specs.Types.{Entry}
 use Rattle.cluster_facts.specs.History.{Hand, Empty, Waiting, Applied, Ready}
 use Rattle.cluster_events.specs.Lines.{Told}
 use Rattle.cluster_events.specs.Servers.{State}
+use Rattle.cluster_events.specs.Ending.{is_crash}
 use Rattle.event_text.specs.Texts.{printed}
 use Rattle.mirror.specs.declared.state.NodeState.{NodeState as Node}
 use Rattle.group_cluster.specs.Seats as defined
@@ -32,6 +33,7 @@ use Rattle.group_servers.specs.declared.group.Group.{Group}
 use Rattle.group_servers.specs.GroupKit.{group_kit, group_script}
 use Rattle.group_servers.specs.GroupNodes.{active_by, node_by, seats_by}
 use Rattle.group_servers.specs.GroupCounts.{CountsLine, FellIn}
+use Rattle.group_servers.specs.GroupUses.{AreToldAlike, lacks-alike}
 use Rattle.group_servers.proofs.FallSteps.{few-standbys}
 use Rattle.cluster_core.specs.Game.{world_game}
 use Rattle.cluster_core.specs.declared.world.World.{World}
@@ -163,15 +165,30 @@ parts-broken acting setup state held left parts broken = record {
   files = broken.files;
 }
 
-pub lacks-event : (next : Line) (old new : World) (before after : List (List ℕ)) (held left : DiskSeen) → BreaksWhole Memory next old new before after held left → (BreaksOn world_game) old new held left
+-- where it led still, the server that was active is in the world as in its parts
+told-alike : (acting : Server) → IsOfTwo acting → (parts : Cluster (Group 2)) → AreToldAlike acting parts.servers (parts_of acting (whole_of parts)).servers
+told-alike A two parts =
+    let other = (other_seat parts.servers.acting parts.servers.seats).node in
+    record { armed = refl; leads = λ is. (refl, ap (λ (server : Server). named server parts.servers.active other) is) }
+told-alike B two parts =
+    let other = (other_seat parts.servers.acting parts.servers.seats).node in
+    record { armed = refl; leads = λ is. (refl, ap (λ (server : Server). unnamed server parts.servers.active other) is) }
+told-alike C two parts = elim two [ ]
+
+pub lacks-event : (next : Line) (old new : World) (before after : List (List ℕ)) (held left : DiskSeen) → BreaksWhole Memory next old new before after held left → (BreaksOn world_game) next old new held left
 lacks-event next old new before after held left whole setup state good shows armed =
     let parts = whole.0 in
     let broken = whole.2 setup state good (parts-show setup state old good shows) armed in
-    subst (λ (w : World). (Broken world_game) setup state held left w × (Lacks world_game) setup state held left w) (sym whole.1)
-    (parts-broken state.peers.acting setup state held left parts broken.0, broken.1)
+    let acting = state.peers.acting in
+    let told = told-alike acting (two-good state good.steady.good).acts parts in
+    subst (λ (w : World). (Broken world_game) setup state held left w × (Lacks world_game) setup state next held left w) (sym whole.1) (
+      parts-broken acting setup state held left parts broken.0,
+      lacks-alike (is_crash next) setup state parts.history.entries parts.servers (parts_of acting (whole_of parts)).servers (counters_of held) (counters_of left)
+          told broken.1,
+    )
 
 -- no event of a state ends as the disk stops
-pub stops-event : (next : Line) (old new : World) (before after : List (List ℕ)) (held left : DiskSeen) → BreaksWhole Stopped next old new before after held left → (BreaksOn world_game) old new held left
+pub stops-event : (next : Line) (old new : World) (before after : List (List ℕ)) (held left : DiskSeen) → BreaksWhole Stopped next old new before after held left → (BreaksOn world_game) next old new held left
 stops-event next old new before after held left whole setup state good shows armed =
     absurd (whole.2 setup state good (parts-show setup state old good shows) armed)
 

@@ -1,5 +1,5 @@
 -- What a line left that was not done, and how the disk's count of faults went in a line.
-use Rattle.std.proofs.Common.{◌≡◌, ℕ, inl, inr, Bool, true, List, [], refl, ap, sym, subst, is_ok}
+use Rattle.std.proofs.Common.{◌≡◌, ℕ, inl, inr, Bool, true, false, List, [], refl, ap, sym, subst, is_ok}
 use Rattle.std.specs.Prelude.{Result, Ok, Err, OnOk, OnErr, IfErr, IsErrOf}
 use Rattle.ais_values.specs.Causes.{RoseExactlyOn}
 use Rattle.disk_model.specs.Seen.{DiskSeen}
@@ -17,6 +17,7 @@ use Rattle.cluster_events.specs.Lines.{is_ignored}
 use Rattle.cluster_events.specs.Outcomes.{Outcome}
 use Rattle.cluster_events.specs.Servers.{State}
 use Rattle.cluster_events.specs.Devices.{EndBy}
+use Rattle.cluster_events.specs.Ending.{is_crash}
 use Rattle.cluster_events.proofs.Promised.{Says-printed}
 use Rattle.cluster_rounds.specs.declared.cluster.Cluster.{Cluster}
 use Rattle.cluster_rounds.specs.Kits.{IsKit, Kit, device_by}
@@ -83,7 +84,7 @@ module _ {Peers Group : Type 0} (kit : Kit Peers Group) (laws : IsKit kit) (scri
   ends-broken (Err e) (Err f) next old new before after held same breaks =
       let off : (BreaksOff kit script) Memory next old new before after held held = λ setup state good shows count.
       let broken = breaks held setup state good shows in
-      (broken, laws.lacks_same setup state new.history.entries new.servers held ((broken-ends kit laws) setup state held held new broken))
+      (broken, laws.lacks_same (is_crash next) setup state new.history.entries new.servers held ((broken-ends kit laws) setup state held held new broken))
       in
       subst (λ answer. (BreaksOff kit script) answer next old new before after held held) (sym same) off
 
@@ -115,21 +116,21 @@ module _ {Peers Group : Type 0} (kit : Kit Peers Group) (laws : IsKit kit) (scri
       (λ fails end ends. follows.settles (plain_of setup) (device_by setup fails) state end (shared setup state good shows) ends) (λ happened end faults. follows.settle_faults setup happened state end held left faults) (off setup state good shows count tt)
 
   -- files were to be shown
-  read-lacks : (one two beside : DiskSeen) → IsRead one two → two.faults ≡ one.faults → (setup : Setup) (state : State Peers) (world : Cluster Group) → (IsGood kit) setup state → (Shows kit) setup state world → (Broken kit) setup state (kit.see one beside) (kit.see two beside) world × kit.Lacks setup state world.history.entries world.servers (kit.see one beside) (kit.see two beside)
+  read-lacks : (one two beside : DiskSeen) → IsRead one two → two.faults ≡ one.faults → (setup : Setup) (state : State Peers) (world : Cluster Group) → (IsGood kit) setup state → (Shows kit) setup state world → (Broken kit) setup state (kit.see one beside) (kit.see two beside) world × kit.Lacks false setup state world.history.entries world.servers (kit.see one beside) (kit.see two beside)
   read-lacks one two beside read faults setup state world good shows =
       let nothing = unasked-same (plain_of setup) state.world in
       let left : kit.Tells setup state (kit.see one beside) → kit.Between setup (committed state.world.core) (kit.see one beside) (kit.see two beside) = λ tells. (left-between kit laws) setup state (kit.see one beside) (kit.see two beside) good (laws.read_left setup state one two beside read tells) in
       let armed : kit.Armed state.peers (kit.see one beside) → kit.ArmedAs world.servers (kit.see two beside) = λ is. (armed-shown kit laws) setup state (kit.see two beside) world shows (laws.read_armed state.peers one two beside read is) in
       ((whole-broken kit laws) setup state state [] (kit.see one beside) (kit.see two beside) world good.steady.sound nothing shows.net shows.agents shows.history shows.now armed left, laws.read_lacks setup state world.history.entries world.servers one two beside ((shown-ends kit laws) setup state world shows) read faults)
 
-  pub show-broken : {T : Type 0} (r : Result T DiskAnswer) (next : Line) (old : Cluster Group) (before after : List (List ℕ)) (one two beside : DiskSeen) → (FaultLeaves kit script) next old old before before (kit.see one beside) (kit.see two beside) → IsRead one two → RoseExactlyOn one.faults two.faults r Failed → (IsErrOf r Failed → after ≡ before) → (IsErrOf r Stopped → ⊥) → IfErr r (λ answer. (BreaksOff kit script) answer next old old before after (kit.see one beside) (kit.see two beside))
-  show-broken (Ok x) next old before after one two beside leaves read cause stays never = tt
-  show-broken (Err Memory) next old before after one two beside leaves read cause stays never = λ setup state good shows count. elim cause.stands [
+  pub show-broken : {T : Type 0} (r : Result T DiskAnswer) (next : Line) (old : Cluster Group) (before after : List (List ℕ)) (one two beside : DiskSeen) → is_crash next ≡ false → (FaultLeaves kit script) next old old before before (kit.see one beside) (kit.see two beside) → IsRead one two → RoseExactlyOn one.faults two.faults r Failed → (IsErrOf r Failed → after ≡ before) → (IsErrOf r Stopped → ⊥) → IfErr r (λ answer. (BreaksOff kit script) answer next old old before after (kit.see one beside) (kit.see two beside))
+  show-broken (Ok x) next old before after one two beside none leaves read cause stays never = tt
+  show-broken (Err Memory) next old before after one two beside none leaves read cause stays never = λ setup state good shows count. elim cause.stands [
     | inl is ↦ cc
-    | inr same ↦ read-lacks one two beside read same setup state old good shows
+    | inr same ↦ subst (λ (crash : Bool). (Broken kit) setup state (kit.see one beside) (kit.see two beside) old × kit.Lacks crash setup state old.history.entries old.servers (kit.see one beside) (kit.see two beside)) (sym none) (read-lacks one two beside read same setup state old good shows)
   ]
-  show-broken (Err Stopped) next old before after one two beside leaves read cause stays never = absurd (never refl)
-  show-broken (Err Failed) next old before after one two beside leaves read cause stays never =
+  show-broken (Err Stopped) next old before after one two beside none leaves read cause stays never = absurd (never refl)
+  show-broken (Err Failed) next old before after one two beside none leaves read cause stays never =
       subst (λ (lines : List (List ℕ)). (FaultLeaves kit script) next old old before lines (kit.see one beside) (kit.see two beside)) (sym (stays refl)) leaves
 
   pub show-fails : (one two beside : DiskSeen) → IsRead one two → (ShowFails kit script) (kit.see one beside) (kit.see two beside)
@@ -137,8 +138,8 @@ module _ {Peers Group : Type 0} (kit : Kit Peers Group) (laws : IsKit kit) (scri
 
   pub files-broken : {T : Type 0} (r : Result T DiskAnswer) (next : Line) (old : Cluster Group) (before after : List (List ℕ)) (one two beside : DiskSeen) → next ≡ line.Files → IsRead one two → RoseExactlyOn one.faults two.faults r Failed → (IsErrOf r Failed → after ≡ before) → (IsErrOf r Stopped → ⊥) → IfErr r (λ answer. (BreaksOff kit script) answer next old old before after (kit.see one beside) (kit.see two beside))
   files-broken r next old before after one two beside is read cause stays never =
-      show-broken r next old before after one two beside (subst (λ (n : Line). (FaultLeaves kit script) n old old before before (kit.see one beside) (kit.see two beside)) (sym is) (refl, refl, show-fails one two beside read)) read cause stays never
+      show-broken r next old before after one two beside (ap is_crash is) (subst (λ (n : Line). (FaultLeaves kit script) n old old before before (kit.see one beside) (kit.see two beside)) (sym is) (refl, refl, show-fails one two beside read)) read cause stays never
 
   pub cat-broken : {T : Type 0} (r : Result T DiskAnswer) (next : Line) (name : List ℕ) (old : Cluster Group) (before after : List (List ℕ)) (one two beside : DiskSeen) → next ≡ line.Cat name → IsRead one two → RoseExactlyOn one.faults two.faults r Failed → (IsErrOf r Failed → after ≡ before) → (IsErrOf r Stopped → ⊥) → IfErr r (λ answer. (BreaksOff kit script) answer next old old before after (kit.see one beside) (kit.see two beside))
   cat-broken r next name old before after one two beside is read cause stays never =
-      show-broken r next old before after one two beside (subst (λ (n : Line). (FaultLeaves kit script) n old old before before (kit.see one beside) (kit.see two beside)) (sym is) (refl, refl, show-fails one two beside read)) read cause stays never
+      show-broken r next old before after one two beside (ap is_crash is) (subst (λ (n : Line). (FaultLeaves kit script) n old old before before (kit.see one beside) (kit.see two beside)) (sym is) (refl, refl, show-fails one two beside read)) read cause stays never

@@ -12,6 +12,7 @@ use Rattle.service_laws.specs.PlainOf.{plain_of}
 use Rattle.cluster_events.specs.Outcomes.{Outcome}
 use Rattle.cluster_events.specs.Servers.{State}
 use Rattle.cluster_events.specs.Devices.{EndBy}
+use Rattle.cluster_events.specs.Ending.{is_crash}
 use Rattle.cluster_events.specs.Running.{Shelf}
 use Rattle.event_text.specs.Texts.{printed}
 use Rattle.cluster_clients.specs.Looks.{FileCalls, ListCalls, Looks}
@@ -92,7 +93,7 @@ module _ {Peers Group : Type 0} (kit : Kit Peers Group) (script : Script Peers k
   abbrev pub BreaksOff : DiskAnswer → Line → Cluster Group → Cluster Group → List (List ℕ) → List (List ℕ) → kit.Seen → kit.Seen → Type 0
   BreaksOff Memory next old new before after held left =
       (setup : Setup) (state : State Peers) → IsGood kit setup state → Shows kit setup state old → kit.Armed state.peers held
-      → Broken kit setup state held left new × kit.Lacks setup state new.history.entries new.servers held left
+      → Broken kit setup state held left new × kit.Lacks (is_crash next) setup state new.history.entries new.servers held left
   BreaksOff Failed next old new before after held left = FaultLeaves next old new before after held left
   BreaksOff Stopped next old new before after held left =
       (setup : Setup) (state : State Peers) → IsGood kit setup state → Shows kit setup state old → kit.Armed state.peers held → ⊥

@@ -1,5 +1,5 @@
 -- Events that came to an outcome, or ended, one after another.
-use Rattle.std.proofs.Common.{◌≡◌, ℕ, ◌≤◌, Bool, ◌||◌, List, ◌++◌, length, ap, sym, ◌∙◌, subst, append_assoc, arith}
+use Rattle.std.proofs.Common.{◌≡◌, ℕ, ◌≤◌, Bool, false, ◌||◌, List, ◌++◌, length, ap, sym, ◌∙◌, subst, append_assoc, arith}
 use Rattle.std.proofs.lemmas.List.{length-append}
 use Rattle.disk_model.specs.declared.answers.DiskAnswer.{DiskAnswer}
 use Rattle.disk_model.specs.declared.answers.DiskAnswer.TheVariants.{Memory, Failed, Stopped}
@@ -123,7 +123,7 @@ module _ {Peers Group : Type 0} (kit : Kit Peers Group) (laws : IsKit kit) where
   pub alone-off : (P : State Peers → Type 0) (Ends : (EndOver kit)) (old new : Cluster Group) (before after : List (List ℕ)) (disk : kit.Seen) → (BreaksAloneIf kit) P old new → (ComesOff kit) P Ends Memory old new before after disk disk
   alone-off P Ends old new before after disk breaks setup state good shows counted so =
       let broken = breaks disk setup state good shows so in
-      (broken, laws.lacks_same setup state new.history.entries new.servers disk ((broken-ends kit laws) setup state disk disk new broken))
+      (broken, laws.lacks_same false setup state new.history.entries new.servers disk ((broken-ends kit laws) setup state disk disk new broken))
 
   -- what is played alone, and then memory runs out
   pub plays-lack : (P Q : State Peers → Type 0) (event : (Event kit)) (old middle new : Cluster Group) (before between : List (List ℕ)) (loud : Bool) → Leads P Q event → (Keeps kit laws) event → (Plays kit) P event old middle before between loud → (BreaksAloneIf kit) Q middle new → (BreaksAloneIf kit) P old new

@@ -82,7 +82,7 @@ module _ {Peers Group : Type 0} (kit : Kit Peers Group) where
   abbrev pub LeavesOff :
       Setup → State Peers → EndBy Peers → DiskAnswer → Cluster Group → List (List ℕ) → List (List ℕ) → kit.Seen → kit.Seen → Type 0
   LeavesOff setup state Ends Memory new before after held left =
-      Broken kit setup state held left new × kit.Lacks setup state new.history.entries new.servers held left
+      Broken kit setup state held left new × kit.Lacks false setup state new.history.entries new.servers held left
   LeavesOff setup state Ends Failed new before after held left = Ended setup state Ends new before after held left
   LeavesOff setup state Ends Stopped new before after held left = Halted setup state Ends new before after held left
 

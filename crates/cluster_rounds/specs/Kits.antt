@@ -1,5 +1,5 @@
 -- Words of public clauses: what the cluster's code is told of servers, and what is asked of them.
-use Rattle.std.specs.Prelude.{◌≡◌, ℕ, ◌≤◌, Option, List, length}
+use Rattle.std.specs.Prelude.{◌≡◌, ℕ, ◌≤◌, Bool, false, Option, List, length}
 use Rattle.ais_values.specs.Causes.{Rose}
 use Rattle.disk_model.specs.Disk.{Files}
 use Rattle.disk_model.specs.Seen.{DiskSeen}
@@ -52,11 +52,11 @@ pub record Kit (P S : Type 0) : Type 1 where
   pub EndsAt : DiskAnswer → Plain → Device → EndAt P
   pub Fell : Setup → State P → S → Seen → Type 0
   -- what the disks counted as an event came from a state to an outcome, by the works that failed; as it ended there by a stop, or by a
-  -- fault; and as memory was wanting, with the history and the servers of the code as they are then
+  -- fault; and as memory was wanting, by whether it was as a server crashed, with the history and the servers of the code as they are then
   pub Uses : Setup → (ℕ → ℕ) → State P → Outcome (State P) → Seen → Seen → Type 0
   pub Halts : Setup → (ℕ → ℕ) → State P → Outcome (State P) → Seen → Seen → Type 0
   pub Faults : Setup → (ℕ → ℕ) → State P → Outcome (State P) → Seen → Seen → Type 0
-  pub Lacks : Setup → State P → List Entry → S → Seen → Seen → Type 0
+  pub Lacks : Bool → Setup → State P → List Entry → S → Seen → Seen → Type 0
   -- how the disks' counts may go on any disks where an event is done, and where one ends by a fault
   pub Outlives : Seen → Seen → Type 0
   pub Rises : Seen → Seen → Type 0
@@ -107,7 +107,7 @@ pub record IsKit {P S : Type 0} (kit : Kit P S) : Type 0 where
       → kit.Tells setup state (kit.see one beside) → kit.Leaves setup state (kit.see one beside) (kit.see two beside)
   pub read_lacks : (setup : Setup) (state : State P) (entries : List Entry) (servers : S) (one two beside : DiskSeen)
       → EndsIn entries state.world.core.answered → IsRead one two → two.faults ≡ one.faults
-      → kit.Lacks setup state entries servers (kit.see one beside) (kit.see two beside)
+      → kit.Lacks false setup state entries servers (kit.see one beside) (kit.see two beside)
   pub read_outlives : (one two beside : DiskSeen) → IsRead one two → two.faults ≡ one.faults → kit.Outlives (kit.see one beside) (kit.see two beside)
   pub read_rises : (one two beside : DiskSeen) → IsRead one two → one.faults ≤ two.faults → Rose one.faults two.faults
       → kit.Rises (kit.see one beside) (kit.see two beside)
@@ -128,12 +128,12 @@ pub record IsKit {P S : Type 0} (kit : Kit P S) : Type 0 where
   pub faults_behind : (setup : Setup) (one two : ℕ → ℕ) (state : State P) (first end : Outcome (State P)) (held told left : kit.Seen)
       → kit.Uses setup one state first held told → kit.Faults setup two first.state end told left
       → kit.Faults setup (spliced (answered_in first.state) one two) state (behind first end) held left
-  pub lacks_same : (setup : Setup) (state : State P) (entries : List Entry) (servers : S) (seen : kit.Seen)
-      → EndsIn entries state.world.core.answered → kit.Lacks setup state entries servers seen seen
+  pub lacks_same : (crash : Bool) (setup : Setup) (state : State P) (entries : List Entry) (servers : S) (seen : kit.Seen)
+      → EndsIn entries state.world.core.answered → kit.Lacks crash setup state entries servers seen seen
   pub lacks_behind : (setup : Setup) (happened : ℕ → ℕ) (state : State P) (first : Outcome (State P)) (entries : List Entry) (servers : S)
       (held told left : kit.Seen)
-      → kit.Uses setup happened state first held told → kit.Lacks setup first.state entries servers told left
-      → kit.Lacks setup state entries servers held left
+      → kit.Uses setup happened state first held told → kit.Lacks false setup first.state entries servers told left
+      → kit.Lacks false setup state entries servers held left
   -- on any disks the counts may stand, and go on
   pub stands : (seen : kit.Seen) → kit.Outlives seen seen
   pub further : (one two three : kit.Seen) → kit.Outlives one two → kit.Outlives two three → kit.Outlives one three

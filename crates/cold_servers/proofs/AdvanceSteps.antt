@@ -85,7 +85,7 @@ pub back-off : (old : Cluster Solo) (servers : Lone) (before after : List (List 
 back-off old servers before after held stays = λ setup state good shows count so.
     let new : Cluster Solo = record old { servers = record { lone = servers } } in (
       nothing-broken cold_kit cold_laws setup state held new good shows.net shows.agents shows.history shows.now (armed-kept setup state old new.servers held held shows stays refl refl),
-      cold_laws.lacks_same setup state old.history.entries new.servers held (shown-ends cold_kit cold_laws setup state old shows),
+      cold_laws.lacks_same false setup state old.history.entries new.servers held (shown-ends cold_kit cold_laws setup state old shows),
     )
 
 -- The entry in hand is worked.

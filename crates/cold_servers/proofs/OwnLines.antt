@@ -11,6 +11,7 @@ use Rattle.service_laws.specs.PlainOf.{plain_of}
 use Rattle.cluster_facts.specs.Types.{Entry}
 use Rattle.cluster_facts.specs.History.{Hand, Empty, Waiting, Applied, Ready}
 use Rattle.cluster_events.specs.Events.{refuse}
+use Rattle.cluster_events.specs.Ending.{is_crash}
 use Rattle.cluster_events.specs.Servers.{State}
 use Rattle.cluster_clients.proofs.DispatchSteps.{on-err}
 use Rattle.mirror.specs.declared.state.NodeState.{NodeState}
@@ -166,7 +167,7 @@ module _ {T E : Type 0} (r : Result T E) (s : Result T DiskAnswer) (next : Line)
           subst D (sym kept.1) (subst W (sym kept.0) (subst A (sym same) (record {
             ok = tt;
             stands = tt;
-            broken = λ setup state good shows count. (same-breaks cold_kit cold_laws old held setup state good shows, cold_laws.lacks_same setup state old.history.entries old.servers held (shown-ends cold_kit cold_laws setup state old shows));
+            broken = λ setup state good shows count. (same-breaks cold_kit cold_laws old held setup state good shows, cold_laws.lacks_same (is_crash next) setup state old.history.entries old.servers held (shown-ends cold_kit cold_laws setup state old shows));
             counts = cold_laws.stands held;
           })))
 

@@ -232,7 +232,7 @@ cold_laws = record {
       ends-behind Stopped setup (answered_in first.state) one two state first.state end.state held told left before after;
   faults_behind = λ setup one two state first end held told left before after.
       ends-behind Failed setup (answered_in first.state) one two state first.state end.state held told left before after;
-  lacks_same = λ setup state entries servers seen ends.
+  lacks_same = λ crash setup state entries servers seen ends.
       lacks-idle setup state entries seen seen ends refl (made-none seen.disk) (made-none seen.journal);
   lacks_behind = λ setup happened state first entries servers held told left before after.
       lacks-behind setup happened state first.state entries held told left before after;

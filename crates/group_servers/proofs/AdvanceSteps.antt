@@ -44,6 +44,7 @@ record Keeps (state : State Peers) (outcome : Outcome (State Peers)) : Type 0 wh
   armed : outcome.state.peers.armed ≡ state.peers.armed
   answered : outcome.state.world.core.answered ≡ state.world.core.answered
   up : count_up outcome.state ≡ count_up state
+  acting : outcome.state.peers.acting ≡ state.peers.acting
 
 abbrev or-own : {T : Type 0} → T → Option T → T
 or-own x None = x
@@ -79,7 +80,7 @@ module _ (n : ℕ) where
       let hand = state.world.core.hand in
       let made = looked turned.0 hand turned.1 state in
       let roles = turned-roles (mirrored past) hand state.peers.acting (mirrored-turns past hand) state.peers.seats turned.0 turned.1 is good.steady.good.agree in
-      let one : IsOne setup state made = record { step = mirror-step n setup state turned.0 turned.1 good roles is; keeps = record { armed = refl; answered = refl; up = turn-up (mirrored past) (mirrored-up past) state.peers.seats turned.0 turned.1 is } } in
+      let one : IsOne setup state made = record { step = mirror-step n setup state turned.0 turned.1 good roles is; keeps = record { armed = refl; answered = refl; up = turn-up (mirrored past) (mirrored-up past) state.peers.seats turned.0 turned.1 is; acting = refl } } in
       subst (IsOne setup state) (some-is made outcome some) one
 
   ack-is : (setup : Setup) (state : State Peers) (outcome : Outcome (State Peers)) → IsGood (group_kit n) setup state → (found : Option (List Seat × List Told)) → first_turn confirmed state.peers.seats ≡ found → step_by found state ≡ Some outcome → IsOne setup state outcome
@@ -88,13 +89,13 @@ module _ (n : ℕ) where
       let hand = state.world.core.hand in
       let made = looked turned.0 hand turned.1 state in
       let roles = turned-roles confirmed hand state.peers.acting (confirmed-turns hand) state.peers.seats turned.0 turned.1 is good.steady.good.agree in
-      let one : IsOne setup state made = record { step = ack-step n setup state turned.0 turned.1 good roles is; keeps = record { armed = refl; answered = refl; up = turn-up confirmed confirmed-up state.peers.seats turned.0 turned.1 is } } in
+      let one : IsOne setup state made = record { step = ack-step n setup state turned.0 turned.1 good roles is; keeps = record { armed = refl; answered = refl; up = turn-up confirmed confirmed-up state.peers.seats turned.0 turned.1 is; acting = refl } } in
       subst (IsOne setup state) (some-is made outcome some) one
 
   -- nothing was worked
   kept-dealt : (setup : Setup) (state : State Peers) (outcome : Outcome (State Peers)) (disk : DiskSeen) → Keeps state outcome → WorkedAll (device_by setup (λ number. 0)) state outcome.state (counters_of disk) (counters_of disk)
   kept-dealt setup state outcome disk keeps =
-      worked-same (device_by setup (λ number. 0)) state outcome.state (counters_of disk) keeps.answered keeps.up
+      worked-same (device_by setup (λ number. 0)) state outcome.state (counters_of disk) keeps.answered keeps.up keeps.acting
 
   -- **a message on the way to a server**
   pub mirror-advances : (old new : Cluster (Group n)) (before after : List (List ℕ)) (disk : DiskSeen) → StepsBy n mirror_group true old new before after → Advances (group_kit n) true old new before after disk disk

@@ -16,14 +16,14 @@ use Rattle.cluster_rounds.specs.Seen.{counters_of}
 use Rattle.cluster_lines.specs.Playing.{BreaksOff}
 use Rattle.group_servers.specs.declared.group.Group.{Group}
 use Rattle.group_servers.specs.GroupKit.{group_kit, group_script}
-use Rattle.group_servers.specs.GroupUses.{lacks-later}
+use Rattle.group_servers.specs.GroupUses.{crash-later, lacks-later}
 
 module _ (n : ℕ) where
   pub off-counted : {T : Type 0} (r : Result T DiskAnswer) (Ends : EndOver (group_kit n)) (old new : Cluster (Group n)) (before after : List (List ℕ)) (held left : DiskSeen) → HasStateOn (group_kit n) any_state old held → OnOk r (held.faults ≤ left.faults) → IfErr r (λ answer. ComesOff (group_kit n) any_state Ends answer old new before after held left) → Counted {T = T} (group_kit n) held left r
   off-counted (Ok x) Ends old new before after held left has done off = done
   off-counted (Err Memory) Ends old new before after held left has done off =
       let lacks = (off has.setup has.state has.good has.shows has.count tt).1 in
-      lacks-later has.setup has.state new.history.entries new.servers.armed (counters_of held) (counters_of left) lacks
+      lacks-later has.setup has.state new.history.entries new.servers (counters_of held) (counters_of left) lacks
   off-counted (Err Stopped) Ends old new before after held left has done off = (off has.setup has.state has.good has.shows has.count tt).uses.later
   off-counted (Err Failed) Ends old new before after held left has done off =
       let faults = (off has.setup has.state has.good has.shows has.count tt).faults in
@@ -37,7 +37,7 @@ module _ (n : ℕ) where
   crash-counted (Ok x) server old new before after held left has done off = done
   crash-counted (Err Memory) server old new before after held left has done off =
       let lacks = (off has.setup has.state has.good has.shows has.count).1 in
-      lacks-later has.setup has.state new.history.entries new.servers.armed (counters_of held) (counters_of left) lacks
+      crash-later has.setup has.state new.history.entries new.servers (counters_of held) (counters_of left) lacks
   crash-counted (Err Stopped) server old new before after held left has done off =
       absurd (off has.setup has.state has.good has.shows has.count)
   crash-counted (Err Failed) server old new before after held left has done off =

@@ -13,12 +13,13 @@ use Rattle.script_lines.specs.declared.line.Server.{Server}
 use Rattle.plain_service.specs.Setups.{Setup}
 use Rattle.plain_service.specs.Legal.{IsHistory}
 use Rattle.cluster_facts.specs.Types.{Entry}
-use Rattle.cluster_facts.specs.Lists.{EndsIn}
 use Rattle.cluster_facts.specs.History.{Hand, Empty, Waiting, Applied, Ready, committed_by}
 use Rattle.cluster_events.specs.Outcomes.{Outcome}
 use Rattle.cluster_events.specs.Servers.{State}
 use Rattle.event_text.specs.Texts.{printed}
 use Rattle.mirror.specs.declared.state.NodeState.{NodeState as Node}
+use Rattle.mirror.specs.Replicas.{down}
+use Rattle.mirror.specs.Pairing.{alone}
 use Rattle.mirror.proofs.ReplicaLaws.{count-is}
 use Rattle.lead_server.specs.Parting.{waiting_in, waiting_lines}
 use Rattle.group_cluster.specs.Seats as defined
@@ -35,7 +36,7 @@ use Rattle.cluster_rounds.specs.declared.cluster.Cluster.{Cluster}
 use Rattle.cluster_rounds.specs.Broken.{Broken, LeavesBetween}
 use Rattle.cluster_rounds.specs.Kits.{device_by}
 use Rattle.cluster_rounds.specs.Worlds.{Shows, IsGood, Happened, TellsFiles, LeavesFiles}
-use Rattle.cluster_rounds.proofs.BrokenSteps.{committed-ends, whole-broken}
+use Rattle.cluster_rounds.proofs.BrokenSteps.{whole-broken}
 use Rattle.cluster_rounds.proofs.FilesSteps.{left-between}
 use Rattle.cluster_rounds.specs.Seen.{counters_of}
 use Rattle.cluster_lines.specs.Own.{DoesOn}
@@ -43,14 +44,15 @@ use Rattle.cluster_lines.specs.Playing.{BreaksOff, EndsLine, LineEnded}
 use Rattle.group_servers.specs.declared.group.Seat.{Seat}
 use Rattle.group_servers.specs.declared.group.Group.{Group}
 use Rattle.group_servers.specs.Caught.{CatchesIf, PutsCaught, taken_if}
-use Rattle.group_servers.specs.Deals.{AreSome, Spent, Taking, fell_behind, last_calls, total}
-use Rattle.group_servers.specs.Falls.{IsFitSeat, TookOver, AllFell, FellPartly, all_wayless}
+use Rattle.group_servers.specs.Deals.{AreSome, Spent, fell_behind, last_calls, total}
+use Rattle.group_servers.specs.Falls.{IsFitSeat, TookOver, AllFell, FellPartly, StaysAt, all_wayless}
 use Rattle.group_servers.specs.Followed.{row_calls}
-use Rattle.group_servers.specs.GroupCounts.{CountsCrash, CrashEnded, Crashed, FaultsLine, LacksGroup, UsesLine, count_up, fell_first, kept_calls}
+use Rattle.group_servers.specs.GroupCounts.{CountsCrash, CrashEnded, Crashed, FaultsLine, LacksCrash, UsesLine, count_up, fell_first, kept_calls}
+use Rattle.group_servers.specs.GroupCounts.LacksCrash.{Taking}
 use Rattle.group_servers.specs.GroupKit.{group_kit, group_script}
 use Rattle.group_servers.specs.GroupLaws.{group_laws}
 use Rattle.group_servers.specs.GroupNodes.{active_by, waits_by, seats_by, bare}
-use Rattle.group_servers.specs.GroupUses.{dealt-none, lacks-quiet, spent-as}
+use Rattle.group_servers.specs.GroupUses.{spent-as}
 use Rattle.group_servers.specs.Parted.{leads}
 use Rattle.group_servers.specs.Prepared.{Prepares, Falls, fell}
 use Rattle.group_servers.specs.Seats as code
@@ -156,8 +158,8 @@ caught-many true [] = refl
 caught-many true (own ∷ owns) = λ i. (if stands-caught own.stance i then 1 else 0) + caught-many true owns i
 caught-many false owns = refl
 
-less-up : (made takers standbys beside up : ℕ) → suc made ≤ takers → takers ≤ standbys → standbys ≤ beside → beside ≡ up → 0 + suc made ≤ up
-less-up made takers standbys beside up first second third is = omega arith
+few-up : (made takers standbys beside up : ℕ) → suc made ≤ takers → takers ≤ standbys → standbys ≤ beside → beside ≡ up → suc made ≤ up
+few-up made takers standbys beside up first second third is = omega arith
 
 module _ (n : ℕ) where
   -- what the code knows of the state where the active server crashes
@@ -353,13 +355,13 @@ module _ (n : ℕ) where
         }
 
       -- **memory was wanting**: what was committed stays so, and some may have failed before
-      crash-partly : FellPartly fresh mid.servers.seats new.servers.armed held left → (Broken (group_kit n)) setup state held left new × LacksGroup setup state new.history.entries new.servers.armed (counters_of held) (counters_of left)
+      crash-partly : FellPartly fresh (fell mid.servers) new.servers held left → (Broken (group_kit n)) setup state held left new × LacksCrash setup state new.history.entries new.servers (counters_of held) (counters_of left)
       crash-partly partly = (
         (whole-broken (group_kit n) (group_laws n)) setup state (over (λ number. 0)).state (over (λ number. 0)).told held left new (over-state setup state n good (λ number. 0)).steady.sound (over-says setup state n good (λ number. 0))
             (subst (λ m. AreSpelled state.world.net m) (sym net-is) shows.net)
             (subst (λ a. ShowsAgents (over (λ number. 0)).state.world a) (sym agents-are) (agents-as state.world (over (λ number. 0)).state.world old.agents refl refl refl shows.agents))
-            entries-are (now-is ∙ shows.now) (λ is. partly-armed fresh mid.servers.seats new.servers.armed held left partly) (λ told. files-so told partly.part),
-        lacks-so partly.part,
+            entries-are (now-is ∙ shows.now) (λ is. partly-armed fresh (fell mid.servers) new.servers held left partly) (λ told. files-so told partly.part),
+        lacks-so partly.part partly.stays,
       ) where
         T : List Seat → Type 0
         T seats = TriesPartly fresh seats partly.start left
@@ -376,37 +378,13 @@ module _ (n : ℕ) where
         uncounted-so (inl part) = partly-unarmed fresh (all_wayless mid.servers.seats) partly.start left partly.started.armed part
         uncounted-so (inr made) = tries-unarmed fresh (all_wayless mid.servers.seats) made.0 (Some made.1) partly.start left partly.started.armed made.2
 
-        ends-so : EndsIn new.history.entries past
-        ends-so = subst (λ (entries : List Entry). EndsIn entries past) (sym entries-are) (committed-ends past (caught_hand catching_so hand))
-
-        -- those that keep no deeds do not fail
-        kept-last : (one : ℕ) → AreSome (length (row_calls setup fresh history)) one → length (row_calls setup fresh history) ≡ last_calls (device_by setup (λ number. 0)) new.history.entries
-        kept-last one some = by fresh refl
-          where
-            by : (f : Bool) → fresh ≡ f → length (row_calls setup fresh history) ≡ last_calls (device_by setup (λ number. 0)) new.history.entries
-            by false is =
-                ap (λ (g : Bool). length (row_calls setup g history)) is ∙ row-long setup (λ number. 0) false history
-                ∙ ap (last_calls (device_by setup (λ number. 0))) (sym entries-are)
-            by true is =
-                let none : AreSome (length (row_calls setup true history)) one = subst (λ (g : Bool). AreSome (length (row_calls setup g history)) one) is some in
-                let first = none.0 in
-                let most = none.1 in
-                absurd (omega arith)
-
         -- by how many failed
-        lacks-by : (made : List ℕ) (last : ℕ) → AllByRecursion (AreSome (length (row_calls setup fresh history))) made → last ≤ length (row_calls setup fresh history) → suc (length made) ≤ count_seats (takes fresh) owns → Spent (total made + last) (length made) 0 (counters_of held) (counters_of left) → LacksGroup setup state new.history.entries new.servers.armed (counters_of held) (counters_of left)
-        lacks-by [] last some most few spent =
-            lacks-quiet setup state new.history.entries new.servers.armed (total [] + last) (counters_of held) (counters_of left) ends-so spent.changing spent.faults spent.stops
-        lacks-by (one ∷ made) last some most few spent =
-            let kept = kept-last one some.0 in
-            record {
-              happened = λ number. 0;
-              past = past;
-              worked = counters_of held;
-              dealt = dealt-none (device_by setup (λ number. 0)) past (counters_of held);
-              lacked = Taking one made last ends-so (subst (λ (k : ℕ). AllByRecursion (AreSome k) (one ∷ made)) kept some) (subst (λ (k : ℕ). last ≤ k) kept most) spent partly.unarmed (uncounted-so partly.part);
-              downs = less-up (suc (length made)) (count_seats (takes fresh) owns) (count_seats is_standby owns) (count_seats is_up owns) (count_up state) few (few-of fresh owns) (standbys-up owns) (caught-up catching_so state.peers.seats);
-            }
+        lacks-by : (made : List ℕ) (last : ℕ) → AllByRecursion (AreSome (length (row_calls setup fresh history))) made → last ≤ length (row_calls setup fresh history) → suc (length made) ≤ count_seats (takes fresh) owns → Spent (total made + last) (length made) 0 (counters_of held) (counters_of left) → ((new.servers.acting ≡ state.peers.acting) × (new.servers.active ≡ alone down)) ⊎ (last ≡ length (row_calls setup fresh history)) → LacksCrash setup state new.history.entries new.servers (counters_of held) (counters_of left)
+        lacks-by made last some most few spent out =
+            let kept = kept-long (λ number. 0) in
+            Taking made last entries-are (subst (λ (k : ℕ). AllByRecursion (AreSome k) made) kept some) (subst (λ (k : ℕ). last ≤ k) kept most) spent
+            (few-up (length made) (count_seats (takes fresh) owns) (count_seats is_standby owns) (count_seats is_up owns) (count_up state) few (few-of fresh owns) (standbys-up owns) (caught-up catching_so state.peers.seats))
+            (record { unarmed = partly.unarmed; out = subst (λ (k : ℕ). ((new.servers.acting ≡ state.peers.acting) × (new.servers.active ≡ alone down)) ⊎ (last ≡ k)) kept out }) (uncounted-so partly.part)
 
         started-spent : (calls fails : ℕ) → Spent calls fails 0 (counters_of partly.start) (counters_of left) → Spent calls fails 0 (counters_of held) (counters_of left)
         started-spent calls fails spent = spent-start calls fails 0 held partly.start left partly.started spent
@@ -414,16 +392,16 @@ module _ (n : ℕ) where
         taking-long : length (takers fresh (bare setup past (caught_hand catching_so hand) owns)) ≡ count_seats (takes fresh) owns
         taking-long = ap length (takers-named setup past (caught_hand catching_so hand) fresh owns) ∙ named-long (takes fresh) owns
 
-        lacks-so : TriesPartly fresh (all_wayless mid.servers.seats) partly.start left ⊎ ((seats : List Seat) × (place : ℕ) × Tries fresh (all_wayless mid.servers.seats) seats (Some place) partly.start left) → LacksGroup setup state new.history.entries new.servers.armed (counters_of held) (counters_of left)
-        lacks-so (inl part) =
+        lacks-so : (part : TriesPartly fresh (all_wayless mid.servers.seats) partly.start left ⊎ ((seats : List Seat) × (place : ℕ) × Tries fresh (all_wayless mid.servers.seats) seats (Some place) partly.start left)) → StaysAt (fell mid.servers) new.servers part → LacksCrash setup state new.history.entries new.servers (counters_of held) (counters_of left)
+        lacks-so (inl part) stays =
             let row = partly-row (row_calls setup fresh history) fresh (bare setup past (caught_hand catching_so hand) owns) partly.start left makes-row (subst T seats-are part) in
             lacks-by row.made row.last row.some row.more.1 (subst (λ (k : ℕ). suc (length row.made) ≤ k) taking-long row.few)
-            (started-spent (total row.made + row.last) (length row.made) row.spent)
-        lacks-so (inr made) =
+            (started-spent (total row.made + row.last) (length row.made) row.spent) (inl (stays.1 ∙ acting-is, stays.0))
+        lacks-so (inr made) stays =
             let tried = tried-so setup past (caught_hand catching_so hand) fresh owns (all_wayless mid.servers.seats) made.0 (Some made.1) partly.start left seats-are made.2 in
             let row = tried.row (row_calls setup fresh history) makes-row in
             lacks-by row.made (length (row_calls setup fresh history)) row.some (le_refl (length (row_calls setup fresh history))) (subst (λ (k : ℕ). suc k ≤ count_seats (takes fresh) owns) (sym row.long) tried.next.0)
-            (started-spent (total row.made + length (row_calls setup fresh history)) (length row.made) row.spent)
+            (started-spent (total row.made + length (row_calls setup fresh history)) (length row.made) row.spent) (inr refl)
 
       -- **each of them failed**
       abbrev fell_all : ℕ → ℕ

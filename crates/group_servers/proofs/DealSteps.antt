@@ -1,5 +1,5 @@
 -- What the disk counted as the deeds of an entry broke off, and standbys took over.
-use Rattle.std.proofs.Common.{◌≡◌, ℕ, zero, suc, ◌+◌, ◌-◌, ◌≤◌, ◌⊎◌, inl, inr, Bool, true, false, Option, List, [], ◌∷◌, length, refl, ap, sym, ◌∙◌, arith}
+use Rattle.std.proofs.Common.{◌≡◌, ℕ, zero, suc, ◌+◌, ◌-◌, ◌≤◌, ◌⊎◌, inl, inr, true, false, Option, List, [], ◌∷◌, length, refl, ap, sym, ◌∙◌, arith}
 use Rattle.std.specs.List.{AllByRecursion}
 use Rattle.ais_values.specs.Causes.{Rose}
 use Rattle.disk_model.specs.Counts as counts
@@ -224,12 +224,12 @@ module _ (setup : Setup) (past : List Entry) (entry : Entry) (armed : Option ℕ
       ends-are (failed at off later rose tally stops) = sym row.long ∙ failed-is (suc at) row.made
 
   -- **memory was wanting as one took over, or behind it**
-  unfoldable pub fell-lacked : (entries : List Entry) (server : Bool) (most : ℕ) (row : PartlyRow calls most start left) → entries ≡ entry ∷ past → server ≡ false → ArmedIn calls (went_by broke) held.tally.armed left.tally.armed → LackedAt (device_by setup (λ number. fells broke (length row.made))) entries past server (counters_of held) (counters_of left)
-  fell-lacked entries server most row last unarmed armed_so =
+  unfoldable pub fell-lacked : (entries : List Entry) (Left : (made calls : ℕ) → Type 0) (most : ℕ) (row : PartlyRow calls most start left) → entries ≡ entry ∷ past → Left row.last calls → ArmedIn calls (went_by broke) held.tally.armed left.tally.armed → LackedAt (device_by setup (λ number. fells broke (length row.made))) entries past Left (counters_of held) (counters_of left)
+  fell-lacked entries Left most row last out armed_so =
       let went = went_by broke in
       let made = row.made in
       Falling entry went made row.last last (is-fallen broke) (fells-are (length made) made refl) (way-is made row.some) row.more
       (spent-as _ _ _ _ _ _ (counters_of held) (counters_of left)
       (plus-all (made_by went) (total made) row.last) refl (sum-none (stops_by went))
       (behind-spent (total made + row.last) (length made) row.spent))
-      unarmed armed_so
+      out armed_so

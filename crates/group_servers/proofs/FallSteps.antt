@@ -127,13 +127,13 @@ partly-unarmed fresh seats start left unarmed (fails_first {mid = mid} seat fall
 partly-unarmed fresh seats start left unarmed (lacks seat it one) = ap (λ (t : Tally). t.armed) one.3 ∙ ap (lowered one.0) unarmed
 
 -- where memory was wanting as one took over, no server is armed, and no count is left on the disk
-pub partly-armed : (fresh : Bool) (seats : List Seat) (armed : Bool) (held left : DiskSeen) → FellPartly fresh seats armed held left → armed ≡ is_some left.tally.armed
-partly-armed fresh seats armed held left partly = partly.unarmed ∙ ap is_some (sym none)
+pub partly-armed : {n : ℕ} (fresh : Bool) (old new : Group n) (held left : DiskSeen) → FellPartly fresh old new held left → new.armed ≡ is_some left.tally.armed
+partly-armed fresh old new held left partly = partly.unarmed ∙ ap is_some (sym none)
   where
     none : left.tally.armed ≡ None
     none = elim partly.part [
-      | inl part ↦ partly-unarmed fresh (all_wayless seats) partly.start left partly.started.armed part
-      | inr over ↦ tries-unarmed fresh (all_wayless seats) over.0 (Some over.1) partly.start left partly.started.armed over.2
+      | inl part ↦ partly-unarmed fresh (all_wayless old.seats) partly.start left partly.started.armed part
+      | inr over ↦ tries-unarmed fresh (all_wayless old.seats) over.0 (Some over.1) partly.start left partly.started.armed over.2
     ]
 
 -- the last fault of those that all failed, and those before it

@@ -166,7 +166,7 @@ module _ (n : ℕ) (fresh : Bool) (old : Group n) (held start : DiskSeen) (start
   }
 
   -- **memory was wanting as they tried**
-  pub takes-partly : (new : Group n) (before after : List (List ℕ)) (left : DiskSeen) (answer : DiskAnswer) → new.armed ≡ false → TriesPartly fresh (all_wayless old.seats) start left → (answer ≡ Failed → ⊥) → (answer ≡ Stopped → ⊥) → TakesOver fresh (Err answer) old new before after held left
-  takes-partly new before after left Memory unarmed part not_failed not_stopped = record { unarmed = unarmed; start = start; started = started; part = inl part }
-  takes-partly new before after left Failed unarmed part not_failed not_stopped = absurd (not_failed refl)
-  takes-partly new before after left Stopped unarmed part not_failed not_stopped = absurd (not_stopped refl)
+  pub takes-partly : (new : Group n) (before after : List (List ℕ)) (left : DiskSeen) (answer : DiskAnswer) → new.armed ≡ false → new.active ≡ old.active → new.acting ≡ old.acting → TriesPartly fresh (all_wayless old.seats) start left → (answer ≡ Failed → ⊥) → (answer ≡ Stopped → ⊥) → TakesOver fresh (Err answer) old new before after held left
+  takes-partly new before after left Memory unarmed stays leads part not_failed not_stopped = record { unarmed = unarmed; start = start; started = started; part = inl part; stays = (stays, leads) }
+  takes-partly new before after left Failed unarmed stays leads part not_failed not_stopped = absurd (not_failed refl)
+  takes-partly new before after left Stopped unarmed stays leads part not_failed not_stopped = absurd (not_stopped refl)

@@ -167,7 +167,7 @@ module _ (n : ℕ) where
       subst D (sym disk) (subst W (sym world) (subst A (sym same) (record {
         ok = tt;
         stands = tt;
-        broken = λ setup state good shows counted. ((same-breaks (group_kit n) (group_laws n)) old held setup state good shows, (group_laws n).lacks_same setup state old.history.entries old.servers held ((shown-ends (group_kit n) (group_laws n)) setup state old shows));
+        broken = λ setup state good shows counted. ((same-breaks (group_kit n) (group_laws n)) old held setup state good shows, (group_laws n).lacks_same false setup state old.history.entries old.servers held ((shown-ends (group_kit n) (group_laws n)) setup state old shows));
         counts = (group_laws n).stands held;
       })))
 
@@ -246,5 +246,5 @@ module _ (n : ℕ) where
       subst (λ (next : Line). PlaysLine (group_kit n) group_script s next old new before after held held) (sym is)
       ((alone-line (group_kit n) (group_laws n) group_script (group_follows n)) r s line.Work (refused_by n line.Work) old new before after held same has
       (λ setup state good shows count. idle-by setup state state.world.core.hand state.peers.seats (subst I shows.own idle))
-      (λ setup state good shows count. calm-uses setup line.Work state (refused_by n line.Work setup state) held held refl (worked-same (device_by setup (λ number. 0)) state (refused_by n line.Work setup state).state (counters_of held) refl refl))
+      (λ setup state good shows count. calm-uses setup line.Work state (refused_by n line.Work setup state) held held refl (worked-same (device_by setup (λ number. 0)) state (refused_by n line.Work setup state).state (counters_of held) refl refl refl))
       (λ setup state. record { armed = λ seen armed. armed; tells = λ seen tells. tells }) (subst R is does) breaks)

@@ -137,14 +137,14 @@ module _ (n : ℕ) where
   -- memory was wanting
   abbrev LacksOff : Setup → State Peers → Cluster (Group n) → Cluster (Group n) → List (List ℕ) → List (List ℕ) → DiskSeen → DiskSeen → Type 0
   LacksOff setup state old new before after held left =
-      (Broken (group_kit n)) setup state held left new × LacksGroup setup state new.history.entries new.servers.armed (counters_of held) (counters_of left)
+      (Broken (group_kit n)) setup state held left new × LacksGroup setup state new.history.entries new.servers (counters_of held) (counters_of left)
 
-  partly-by : (setup : Setup) (state : State Peers) (hand : Hand) (entry : Entry) (old : Cluster (Group n)) (new : Group n) (fresh : Bool) (before after : List (List ℕ)) (held mid left : DiskSeen) → hand ≡ Ready entry → IsGood (group_kit n) setup (group_at state.peers.seats hand state) → Shows (group_kit n) setup (group_at state.peers.seats hand state) old → held.tally.armed ≡ state.peers.armed → fresh ≡ list_any code.is_fresh old.servers.seats → any_seat is_standby state.peers.seats ≡ true → BrokeIn old held mid → FellPartly fresh old.servers.seats new.armed mid left → LacksOff setup (group_at state.peers.seats hand state) old (with_servers old new) before after held left
+  partly-by : (setup : Setup) (state : State Peers) (hand : Hand) (entry : Entry) (old : Cluster (Group n)) (new : Group n) (fresh : Bool) (before after : List (List ℕ)) (held mid left : DiskSeen) → hand ≡ Ready entry → IsGood (group_kit n) setup (group_at state.peers.seats hand state) → Shows (group_kit n) setup (group_at state.peers.seats hand state) old → held.tally.armed ≡ state.peers.armed → fresh ≡ list_any code.is_fresh old.servers.seats → any_seat is_standby state.peers.seats ≡ true → BrokeIn old held mid → FellPartly fresh (fell old.servers) new mid left → LacksOff setup (group_at state.peers.seats hand state) old (with_servers old new) before after held left
   partly-by setup state (Ready other) entry old new fresh before after held mid left is good shows count fresh_so standby broke part =
       let now = group_at state.peers.seats (Ready other) state in
       let calls = owed-calls n setup now other old shows refl in
       let made = work-partly n setup state other old new fresh before after held mid left good shows count fresh_so standby (subst (λ c. Broke held.tally.armed c held mid) calls broke) part in
-      (lacks n setup now held left old (with_servers old new) good shows refl refl refl refl (λ is. partly-armed fresh old.servers.seats new.armed mid left part) made.0, made.1)
+      (lacks n setup now held left old (with_servers old new) good shows refl refl refl refl (λ is. partly-armed fresh (fell old.servers) new mid left part) made.0, made.1)
   partly-by setup state Empty entry old new fresh before after held mid left is good shows count fresh_so standby broke part = cc
   partly-by setup state (Waiting other) entry old new fresh before after held mid left is good shows count fresh_so standby broke part = cc
   partly-by setup state (Applied other) entry old new fresh before after held mid left is good shows count fresh_so standby broke part = cc

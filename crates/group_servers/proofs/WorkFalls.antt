@@ -1,5 +1,5 @@
 -- What a work comes to that takes the active server down.
-use Rattle.std.proofs.Common.{◌≡◌, ℕ, suc, ◌-◌, ◌≤◌, ◌⊎◌, inl, inr, Bool, true, false, ◌||◌, is_some, Option, Some, None, List, [], ◌∷◌, length, refl, ap, sym, ◌∙◌, subst, arith, le_refl, le_trans, append-nil}
+use Rattle.std.proofs.Common.{◌≡◌, ℕ, suc, ◌+◌, ◌-◌, ◌≤◌, ◌⊎◌, inl, inr, Bool, true, false, ◌||◌, is_some, Option, Some, None, List, [], ◌∷◌, length, refl, ap, sym, ◌∙◌, subst, arith, le_refl, le_trans, append-nil}
 use Rattle.std.specs.List.{AllByRecursion, list_any}
 use Rattle.ais_values.specs.Causes.{Rose}
 use Rattle.disk_model.specs.Counts as counts
@@ -20,6 +20,8 @@ use Rattle.group_cluster.specs.Ended.{ended}
 use Rattle.group_cluster.proofs.Seating.{AllSeats, any-none}
 use Rattle.group_cluster.proofs.Stepping.{group_at}
 use Rattle.cluster_clients.proofs.DispatchSteps.{agents-as}
+use Rattle.mirror.specs.Replicas.{down}
+use Rattle.mirror.specs.Pairing.{alone}
 use Rattle.cluster_rounds.specs.declared.cluster.Cluster.{Cluster}
 use Rattle.cluster_rounds.specs.Broken.{LeavesBetween}
 use Rattle.cluster_rounds.specs.Came.{Came, Ended}
@@ -29,10 +31,10 @@ use Rattle.cluster_rounds.proofs.FilesSteps.{left-between}
 use Rattle.cluster_rounds.specs.Seen.{counters_of}
 use Rattle.group_servers.specs.declared.group.Seat.{Seat}
 use Rattle.group_servers.specs.declared.group.Group.{Group}
-use Rattle.group_servers.specs.Falls.{TookOver, AllFell, FellPartly, all_wayless}
+use Rattle.group_servers.specs.Falls.{TookOver, AllFell, FellPartly, StaysAt, all_wayless}
 use Rattle.group_servers.specs.Followed.{GoesOnFrom, row_calls}
 use Rattle.group_servers.specs.Deals.{ArmedIn, downs_by}
-use Rattle.group_servers.specs.GroupCounts.{LacksGroup, count_up}
+use Rattle.group_servers.specs.GroupCounts.{HasFallen, LacksGroup, count_up}
 use Rattle.group_servers.specs.GroupKit.{group_kit}
 use Rattle.group_servers.specs.GroupNodes.{bare}
 use Rattle.group_servers.specs.GroupUses.{dealt-none}
@@ -57,6 +59,9 @@ use Rattle.group_servers.proofs.UpSteps.{end-deal, ended-up, lost-few, over-deal
 use Rattle.group_servers.proofs.TriedFiles.{all-follow, all-make, partly-leaves, fall-leaves}
 use Rattle.group_servers.proofs.TriedSteps.{tried-so}
 use Rattle.group_servers.proofs.WorkSteps.{step-came}
+
+some-fallen : (downs count : ℕ) → downs ≡ suc count → downs + 0 ≡ 0 → ⊥
+some-fallen downs count some none = omega arith
 
 -- Standbys beside an entry that is ready keep its deeds.
 none-fresh : (entry : Entry) (owns : List defined.Seat) → AllSeats (Agree (Ready entry)) owns → any_seat is_fresh owns ≡ false
@@ -176,6 +181,7 @@ module _ (n : ℕ) where
               over-deal (count_up now) (downs_by (went_by broke) counted.made) row.count (count_up outcome.state)
               (took-up n setup now good (fell old.servers) new fresh before after mid left seats-are fresh-so acting-is refl took happened tells)
               (downs-are broke counted.made ∙ ap suc counted.long);
+          stays = λ none. absurd (some-fallen (downs_by (went_by broke) counted.made) row.count (downs-are broke counted.made ∙ ap suc counted.long) none);
         })
         (record {
           own = took-own n setup now good (fell old.servers) new fresh before after mid left seats-are fresh-so acting-is refl took happened tells;
@@ -201,7 +207,7 @@ module _ (n : ℕ) where
             by (failed at off before_it first tally stops) = λ never number. absurd (never (le_trans first later))
 
     -- **memory was wanting, as one took over or behind it**
-    pub work-partly : FellPartly fresh old.servers.seats new.armed mid left → (TellsFiles setup now held.files → LeavesBetween setup (committed now.world.core) held.files left.files) × LacksGroup setup now old.history.entries new.armed (counters_of held) (counters_of left)
+    pub work-partly : FellPartly fresh (fell old.servers) new mid left → (TellsFiles setup now held.files → LeavesBetween setup (committed now.world.core) held.files left.files) × LacksGroup setup now old.history.entries new (counters_of held) (counters_of left)
     unfolding fell-lacked
     work-partly partly = (
       λ told. files-so told partly.part,
@@ -210,7 +216,7 @@ module _ (n : ℕ) where
         past = past;
         worked = counters_of held;
         dealt = dealt-none (device_by setup (λ number. fells broke (length row.made))) past (counters_of held);
-        lacked = fell-lacked setup past entry held.tally.armed held mid partly.start left broke partly.started old.history.entries new.armed (count_seats (takes fresh) state.peers.seats) row shows.history partly.unarmed (armed-in (uncounted-so partly.part));
+        lacked = fell-lacked setup past entry held.tally.armed held mid partly.start left broke partly.started old.history.entries (λ made calls. HasFallen now.peers.acting new made calls) (count_seats (takes fresh) state.peers.seats) row shows.history (record { unarmed = partly.unarmed; out = (row-by partly.part).1 partly.stays }) (armed-in (uncounted-so partly.part));
         downs =
             lost-few (downs_by (went_by broke) row.made) (length row.made) (count_seats (takes fresh) state.peers.seats) (count_seats is_standby state.peers.seats) (count_up now)
             (downs-are broke row.made) row.few (few-of fresh state.peers.seats) (standbys-up state.peers.seats);
@@ -228,19 +234,19 @@ module _ (n : ℕ) where
           left-between setup (taken_over (device_by setup (λ number. 0)) now).state held.files left.files behind.begins behind.steady.sound behind.range made
 
       -- how many made which calls: the one that took over made all
-      row-by : TriesPartly fresh (all_wayless old.servers.seats) partly.start left ⊎ ((seats : List Seat) × (place : ℕ) × Tries fresh (all_wayless old.servers.seats) seats (Some place) partly.start left) → PartlyRow (calls_for n setup past entry) (count_seats (takes fresh) state.peers.seats) partly.start left
+      row-by : (part : TriesPartly fresh (all_wayless old.servers.seats) partly.start left ⊎ ((seats : List Seat) × (place : ℕ) × Tries fresh (all_wayless old.servers.seats) seats (Some place) partly.start left)) → (row : PartlyRow (calls_for n setup past entry) (count_seats (takes fresh) state.peers.seats) partly.start left) × (StaysAt (fell old.servers) new part → ((new.acting ≡ now.peers.acting) × (new.active ≡ alone down)) ⊎ (row.last ≡ calls_for n setup past entry))
       row-by (inl part) =
           let own = bare setup past (Ready entry) state.peers.seats in
           let R : Bool → ℕ → Type 0 = λ f most. PartlyRow (length (row_calls setup f (entry ∷ past))) most partly.start left in
           let many : length (takers fresh own) ≡ count_seats (takes fresh) state.peers.seats = ap length (takers-named setup past (Ready entry) fresh state.peers.seats) ∙ named-long (takes fresh) state.peers.seats in
-          subst (R false) many (subst (λ f. R f (length (takers fresh own))) never-fresh (partly-row (row_calls setup fresh (entry ∷ past)) fresh (bare setup past (Ready entry) state.peers.seats) partly.start left makes-row (subst T seats-are part)))
+          (subst (R false) many (subst (λ f. R f (length (takers fresh own))) never-fresh (partly-row (row_calls setup fresh (entry ∷ past)) fresh (bare setup past (Ready entry) state.peers.seats) partly.start left makes-row (subst T seats-are part))), λ stays. inl (stays.1 ∙ acting-is, stays.0))
       row-by (inr over) =
           let made = tried-so setup past (Ready entry) fresh state.peers.seats (all_wayless old.servers.seats) over.0 (Some over.1) partly.start left seats-are over.2 in
           let all = own-row over.0 (Some over.1) partly.start left made in
-          record { made = all.made; few = taken-few (length all.made) made.count (count_seats (takes fresh) state.peers.seats) all.long made.next.0; some = all.some; last = calls_for n setup past entry; more = some-all (calls_for n setup past entry) some-calls; spent = all.spent }
+          (record { made = all.made; few = taken-few (length all.made) made.count (count_seats (takes fresh) state.peers.seats) all.long made.next.0; some = all.some; last = calls_for n setup past entry; more = some-all (calls_for n setup past entry) some-calls; spent = all.spent }, λ stays. inr refl)
 
       row : PartlyRow (calls_for n setup past entry) (count_seats (takes fresh) state.peers.seats) partly.start left
-      row = row-by partly.part
+      row = (row-by partly.part).0
 
       uncounted-so : TriesPartly fresh (all_wayless old.servers.seats) partly.start left ⊎ ((seats : List Seat) × (place : ℕ) × Tries fresh (all_wayless old.servers.seats) seats (Some place) partly.start left) → left.tally.armed ≡ None
       uncounted-so (inl part) = partly-unarmed fresh (all_wayless old.servers.seats) partly.start left partly.started.armed part

@@ -191,6 +191,7 @@ module _ (n : ℕ) where
         dealt = done-dealt setup past other held left (passed-spent many held left (tally ∙ ap (λ c. counts.passed (length c) held.tally) calls) faults stops)
             (subst (λ c. counts.IsShort (length c) held.tally.armed) calls short, ap (λ (t : Tally). t.armed) tally ∙ ap (λ c. counts.lowered (length c) held.tally.armed) calls);
         downs = done-up state.peers.seats;
+        stays = λ none. refl;
       })
       done.0 done.1
       (ap (λ (t : Tally). t.armed) tally ∙ ap (λ c. counts.lowered (length c) held.tally.armed) calls ∙ ap (counts.lowered many) count)
@@ -215,7 +216,7 @@ module _ (n : ℕ) where
         lacks setup state held left old (record old { servers = record old.servers { active = node } }) good shows refl refl refl refl
             (armed-so setup state count held left old shows (ap (λ (t : Tally). t.armed) tally))
             (λ tells. subst C (sym found.ready) ((broken-between (group_kit n) (group_laws n)) setup state found.entry Memory count held.files left.files whole tells)),
-        lacks-quiet setup state old.history.entries old.servers.armed (suc count) (counters_of held) (counters_of left) ((shown-ends (group_kit n) (group_laws n)) setup state old shows) (ap (λ (t : Tally). t.changing) tally) stands stops,
+        lacks-quiet setup state old.history.entries (record old.servers { active = node }) (suc count) (counters_of held) (counters_of left) ((shown-ends (group_kit n) (group_laws n)) setup state old shows) (ap (λ (t : Tally). t.changing) tally) stands stops,
       )
 
   untold-by : (setup : Setup) (state : State Peers) (hand : Hand) (entry : Entry) (old new : Cluster (Group n)) (heard : Heard) (node : Node) (held left : DiskSeen) → hand ≡ Ready entry → IsGood (group_kit n) setup (group_at state.peers.seats hand state) → Shows (group_kit n) setup (group_at state.peers.seats hand state) old → held.tally.armed ≡ state.peers.armed → IsWorked old.servers.active heard node → PostsSome heard.to_net old.net new.net → left.files ≡ option_map (all_applied (calls_of_all (deeds_in old.servers.active.replica.owed))) held.files → counts.IsShort (length (calls_of_all (deeds_in old.servers.active.replica.owed))) held.tally.armed → new.agents ≡ old.agents → new.history.entries ≡ old.history.entries → new.now ≡ old.now → new.servers.armed ≡ is_some left.tally.armed → (Broken (group_kit n)) setup (group_at state.peers.seats hand state) held left new
@@ -250,7 +251,7 @@ module _ (n : ℕ) where
       let found = ready-for setup state old shows some none in (
         untold-by setup state state.world.core.hand found.entry old new heard node held left found.ready good shows armed worked posts files short agents history now
             (same ∙ armed-so setup state (length (calls_of_all (deeds_in old.servers.active.replica.owed))) held left old shows (ap (λ (t : Tally). t.armed) tally) armed),
-        lacks-quiet setup state new.history.entries new.servers.armed (length (calls_of_all (deeds_in old.servers.active.replica.owed))) (counters_of held) (counters_of left) (subst (λ (entries : List Entry). EndsIn entries state.world.core.answered) (sym history) ((shown-ends (group_kit n) (group_laws n)) setup state old shows)) (ap (λ (t : Tally). t.changing) tally) stands stops,
+        lacks-quiet setup state new.history.entries new.servers (length (calls_of_all (deeds_in old.servers.active.replica.owed))) (counters_of held) (counters_of left) (subst (λ (entries : List Entry). EndsIn entries state.world.core.answered) (sym history) ((shown-ends (group_kit n) (group_laws n)) setup state old shows)) (ap (λ (t : Tally). t.changing) tally) stands stops,
       )
 
   -- What is posted is in range.

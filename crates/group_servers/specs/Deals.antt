@@ -1,5 +1,5 @@
 -- Words of public clauses: what a disk counts of the works of entries, and of the takeovers behind them.
-use Rattle.std.specs.Prelude.{◌≡◌, ℕ, zero, suc, ◌+◌, ◌≤◌, Bool, false, Option, Some, None, List, [], ◌∷◌, length}
+use Rattle.std.specs.Prelude.{◌≡◌, ℕ, zero, suc, ◌+◌, ◌≤◌, Option, Some, None, List, [], ◌∷◌, length}
 use Rattle.std.specs.List.{AllByRecursion}
 use Rattle.ais_values.specs.Causes.{Rose}
 use Rattle.disk_model.specs.Counts.{Counters, IsShort, lowered, many_more}
@@ -154,26 +154,21 @@ last_calls device (entry ∷ past) = device.calls past entry
 
 -- Memory was wanting behind so many calls, none of which failed, and the disk did not stop; or the work of the entry behind this history
 -- fell, and memory was wanting as a standby took over, in the last of so many calls, or behind all of them: it is asked for nowhere else.
--- Then no server is armed, and no count is left on the disk. The entries that were worked are of the history that was left, and the one
--- that fell is its last. Or the active server crashed, these standbys failed in the deeds of the last entry once more, and memory was
--- wanting as the next one took over.
-pub data LackedAt (device : Device) (entries past : List Entry) (armed : Bool) (before after : Counters) : Type 0 where
+-- Then the servers are left so, by how many of its calls the standby made, and no count is left on the disk.
+-- The entries that were worked are of the history that was left, and the one that fell is its last.
+pub data LackedAt (device : Device) (entries past : List Entry) (Left : (made calls : ℕ) → Type 0) (before after : Counters) : Type 0 where
   Quiet :
-      EndsIn entries past → (calls : ℕ) → after.tally.changing ≡ many_more calls before.tally.changing → after.faults ≡ before.faults → after.stops ≡ before.stops
-      → LackedAt device entries past armed before after
+      EndsIn entries past → (calls : ℕ) → after.tally.changing ≡ many_more calls before.tally.changing → after.faults ≡ before.faults
+      → after.stops ≡ before.stops → LackedAt device entries past Left before after
   Falling :
-      (entry : Entry) (went : Went) (row : List ℕ) (made : ℕ) → entries ≡ entry ∷ past → IsFallen went → device.fails (suc (length past)) ≡ fell_by went row
-      → IsWent (device.calls past entry) went row → AreSome (device.calls past entry) made
+      (entry : Entry) (went : Went) (row : List ℕ) (made : ℕ) → entries ≡ entry ∷ past → IsFallen went
+      → device.fails (suc (length past)) ≡ fell_by went row → IsWent (device.calls past entry) went row → AreSome (device.calls past entry) made
       → Spent ((made_by went + total row) + made) (faults_by went + length row) (stops_by went) before after
-      → armed ≡ false → ArmedIn (device.calls past entry) went before.tally.armed after.tally.armed → LackedAt device entries past armed before after
-  Taking :
-      (one : ℕ) (row : List ℕ) (made : ℕ) → EndsIn entries past → AllByRecursion (AreSome (last_calls device entries)) (one ∷ row)
-      → made ≤ last_calls device entries → Spent (total (one ∷ row) + made) (suc (length row)) 0 before after → armed ≡ false
-      → after.tally.armed ≡ None → LackedAt device entries past armed before after
+      → Left made (device.calls past entry) → ArmedIn (device.calls past entry) went before.tally.armed after.tally.armed
+      → LackedAt device entries past Left before after
 
 -- how many servers fell then
-abbrev pub downs_at : {device : Device} {entries past : List Entry} {armed : Bool} {before after : Counters}
-    → LackedAt device entries past armed before after → ℕ
+abbrev pub downs_at : {device : Device} {entries past : List Entry} {Left : (made calls : ℕ) → Type 0} {before after : Counters}
+    → LackedAt device entries past Left before after → ℕ
 downs_at (Quiet ends calls made faults stops) = 0
-downs_at (Falling entry went row made last fallen fell way some spent unarmed counted) = downs_by went row
-downs_at (Taking one row made ends some most spent unarmed uncounted) = suc (suc (length row))
+downs_at (Falling entry went row made last fallen fell way some spent out counted) = downs_by went row

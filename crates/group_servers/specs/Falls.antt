@@ -1,5 +1,6 @@
 -- Words of bodies alone: servers that go on where the active one went down, on their parts.
 use Rattle.std.specs.Prelude.{◌≡◌, ℕ, zero, suc, ◌+◌, ◌⊎◌, Bool, false, Some, None, IfSome, Result, Ok, Err, List, [], ◌∷◌, ◌++◌, map, length}
+use Rattle.std.proofs.Common.{inl, inr}
 use Rattle.disk_model.specs.Counts.{disarmed}
 use Rattle.disk_model.specs.Seen.{DiskSeen}
 use Rattle.disk_model.specs.declared.answers.DiskAnswer.{DiskAnswer}
@@ -69,18 +70,24 @@ pub record AllFell {n : ℕ} (fresh : Bool) (old new : Group n) (before after : 
   pub unarmed : new.armed ≡ false
   pub lines : after ≡ before ++ fallen_lines old.acting (takers fresh old.seats)
 
+-- as one of them tried the server that was active is as it was, and leads still
+abbrev pub StaysAt : {n : ℕ} {A B : Type 0} → Group n → Group n → A ⊎ B → Type 0
+StaysAt old new (inl tries) = (new.active ≡ old.active) × (new.acting ≡ old.acting)
+StaysAt old new (inr over) = Unit {0}
+
 -- or memory was wanting, as one of them tried, or behind it: no server is armed
-pub record FellPartly (fresh : Bool) (seats : List Seat) (armed : Bool) (held left : DiskSeen) : Type 0 where
-  pub unarmed : armed ≡ false
+pub record FellPartly {n : ℕ} (fresh : Bool) (old new : Group n) (held left : DiskSeen) : Type 0 where
+  pub unarmed : new.armed ≡ false
   pub start : DiskSeen
   pub started : IsDisarmed held start
   pub part :
-      TriesPartly fresh (all_wayless seats) start left
-      ⊎ ((tried : List Seat) × (place : ℕ) × Tries fresh (all_wayless seats) tried (Some place) start left)
+      TriesPartly fresh (all_wayless old.seats) start left
+      ⊎ ((tried : List Seat) × (place : ℕ) × Tries fresh (all_wayless old.seats) tried (Some place) start left)
+  pub stays : StaysAt old new part
 
 -- a takeover, with its lines in the place of those that told all ends, by how it ended
 abbrev pub TakesOver : {n : ℕ} → Bool → Result (Unit {0}) DiskAnswer → Group n → Group n → List (List ℕ) → List (List ℕ) → DiskSeen → DiskSeen → Type 0
 TakesOver fresh (Ok done) old new before after held left = TookOver fresh old new before after held left
-TakesOver fresh (Err Memory) old new before after held left = FellPartly fresh old.seats new.armed held left
+TakesOver fresh (Err Memory) old new before after held left = FellPartly fresh old new held left
 TakesOver fresh (Err Failed) old new before after held left = AllFell fresh old new before after held left
 TakesOver fresh (Err Stopped) old new before after held left = ⊥

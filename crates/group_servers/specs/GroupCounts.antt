@@ -1,5 +1,5 @@
 -- Words of public clauses: what the disk of servers counted in an event, by the works that failed.
-use Rattle.std.specs.Prelude.{◌≡◌, ℕ, suc, ◌+◌, ◌<◌, ◌≤◌, Bool, true, false, ◌&&◌, nat_lt, if◌then◌else◌, Option, List, [], ◌∷◌, length}
+use Rattle.std.specs.Prelude.{◌≡◌, ℕ, zero, suc, ◌+◌, ◌<◌, ◌≤◌, ◌⊎◌, Bool, true, false, ◌&&◌, nat_lt, if◌then◌else◌, Option, None, List, [], ◌∷◌, length}
 use Rattle.std.specs.List.{AllByRecursion, list_any}
 use Rattle.ais_values.specs.Causes.{Rose}
 use Rattle.disk_model.specs.Counts.{Counters}
@@ -7,8 +7,10 @@ use Rattle.disk_model.specs.Disk.{Files}
 use Rattle.disk_model.specs.Seen.{DiskSeen}
 use Rattle.script_lines.specs.declared.line.Line.{Line}
 use Rattle.script_lines.specs.declared.line.Line.TheVariants as line
+use Rattle.script_lines.specs.declared.line.Server.{Server}
 use Rattle.plain_service.specs.Setups.{Setup}
 use Rattle.cluster_facts.specs.Types.{Entry}
+use Rattle.cluster_facts.specs.Lists.{EndsIn}
 use Rattle.cluster_facts.specs.History.{committed_by}
 use Rattle.cluster_events.specs.declared.lines.ServerRole.TheVariants.{Down}
 use Rattle.cluster_events.specs.Lines.{Told, Stood}
@@ -17,8 +19,11 @@ use Rattle.cluster_events.specs.Servers.{State}
 use Rattle.cluster_events.specs.Devices.{Device, IsCaused}
 use Rattle.group_cluster.specs.Seats.{Peers, any_seat, count_seats, is_standby, is_up, same_server}
 use Rattle.group_cluster.specs.Falling.{catches, caught_hand, caught_seats, is_fresh}
+use Rattle.mirror.specs.Replicas.{down}
+use Rattle.mirror.specs.Pairing.{alone}
 use Rattle.cluster_rounds.specs.Kits.{device_by}
 use Rattle.cluster_lines.specs.Playing.{LooksBy}
+use Rattle.group_servers.specs.declared.group.Group.{Group}
 use Rattle.group_servers.specs.Deals.{AreSome, Dealt, Ending, LackedAt, Spent, downs_at, downs_in, fell_behind, last_calls, of_all, total}
 
 -- whether the line tells that a server is down
@@ -47,10 +52,11 @@ abbrev pub count_up : State Peers → ℕ
 count_up state = count_seats is_up state.peers.seats
 
 -- each entry that was answered was worked once, and as many servers went down as fell in these works: where the active one did, another
--- one is active in its place
+-- one is active in its place, and where none fell the same one is
 pub record WorkedAll (device : Device) (old new : State Peers) (before after : Counters) : Type 0 where
   pub dealt : Dealt device old.world.core.answered new.world.core.answered before after
   pub downs : count_up old ≡ of_all downs_in dealt.deals + count_up new
+  pub stays : of_all downs_in dealt.deals ≡ 0 → new.peers.acting ≡ old.peers.acting
 
 -- an event was done: a work failed only where the count of faults rose, and there the lines tell that a server is down
 pub record UsesGroup (setup : Setup) (happened : ℕ → ℕ) (old new : State Peers) (told : List Told) (before after : Counters) : Type 0 where
@@ -76,16 +82,6 @@ pub record FaultsGroup (setup : Setup) (happened : ℕ → ℕ) (old now : State
   pub rose : Rose between after.faults
   pub ended : EndedIn (device_by setup happened) old now before after
 
--- memory was wanting behind the works that were done, in whichever works the disk failed, with this history left in the code. No more
--- servers fell than were up
-pub record LacksGroup (setup : Setup) (old : State Peers) (entries : List Entry) (armed : Bool) (before after : Counters) : Type 0 where
-  pub happened : ℕ → ℕ
-  pub past : List Entry
-  pub worked : Counters
-  pub dealt : Dealt (device_by setup happened) old.world.core.answered past before worked
-  pub lacked : LackedAt (device_by setup happened) entries past armed worked after
-  pub downs : of_all downs_in dealt.deals + downs_at lacked ≤ count_up old
-
 -- Behind a crash of the active server: the history that goes on, and the calls of the deeds that standbys keep, which is none where one of
 -- them keeps none.
 
@@ -98,6 +94,48 @@ abbrev pub kept_calls : Device → State Peers → ℕ
 kept_calls device state =
     if any_seat is_fresh (caught_seats (catches state.peers.seats state.world.core.hand) state.peers.seats) then 0
     else last_calls device (history_behind state)
+
+-- What want of memory leaves.
+
+-- servers of the code where a takeover lacked memory that had made so many of its calls: none is armed, and this one, which was active, is
+-- down and leads still, unless all calls were made, where the one that took over may be active
+pub record HasFallen {n : ℕ} (acting : Server) (servers : Group n) (made calls : ℕ) : Type 0 where
+  pub unarmed : servers.armed ≡ false
+  pub out : ((servers.acting ≡ acting) × (servers.active ≡ alone down)) ⊎ (made ≡ calls)
+
+-- so it is of the one that was active before an event where no server fell in it before; where one did, another had become active
+abbrev pub HasFallenBehind : {n : ℕ} → ℕ → Server → Group n → (made calls : ℕ) → Type 0
+HasFallenBehind zero acting servers made calls = HasFallen acting servers made calls
+HasFallenBehind (suc fell) acting servers made calls = servers.armed ≡ false
+
+-- memory was wanting behind the works that were done, in whichever works the disk failed, with this history and these servers left in the
+-- code. No more servers fell than were up
+pub record LacksGroup {n : ℕ} (setup : Setup) (old : State Peers) (entries : List Entry) (servers : Group n) (before after : Counters) : Type 0 where
+  pub happened : ℕ → ℕ
+  pub past : List Entry
+  pub worked : Counters
+  pub dealt : Dealt (device_by setup happened) old.world.core.answered past before worked
+  pub lacked :
+      LackedAt (device_by setup happened) entries past
+      (λ made calls. HasFallenBehind (of_all downs_in dealt.deals) old.peers.acting servers made calls) worked after
+  pub downs : of_all downs_in dealt.deals + downs_at lacked ≤ count_up old
+
+-- In the line of a crash no entry is worked: the disk was asked for nothing; or the active server crashed, these standbys failed as they
+-- took over, each in one of the calls of the deeds that it keeps, and memory was wanting as the next one did, behind so many of them.
+pub data LacksCrash {n : ℕ} (setup : Setup) (old : State Peers) (entries : List Entry) (servers : Group n) (before after : Counters) : Type 0 where
+  Unasked :
+      EndsIn entries old.world.core.answered → Spent 0 0 0 before after → after.tally.armed ≡ before.tally.armed
+      → LacksCrash setup old entries servers before after
+  Taking :
+      (row : List ℕ) (made : ℕ) → entries ≡ history_behind old → AllByRecursion (AreSome (kept_calls (device_by setup (λ number. 0)) old)) row
+      → made ≤ kept_calls (device_by setup (λ number. 0)) old → Spent (total row + made) (length row) 0 before after
+      → suc (length row) ≤ count_up old → HasFallen old.peers.acting servers made (kept_calls (device_by setup (λ number. 0)) old)
+      → after.tally.armed ≡ None → LacksCrash setup old entries servers before after
+
+-- by whether it was in the line of a crash
+abbrev pub LacksBy : {n : ℕ} → Bool → Setup → State Peers → List Entry → Group n → Counters → Counters → Type 0
+LacksBy true setup old entries servers before after = LacksCrash setup old entries servers before after
+LacksBy false setup old entries servers before after = LacksGroup setup old entries servers before after
 
 -- a standby took over, behind those that failed
 pub record Crashed (device : Device) (state new : State Peers) (before after : Counters) : Type 0 where

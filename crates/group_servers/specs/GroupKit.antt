@@ -21,7 +21,7 @@ use Rattle.cluster_rounds.specs.Worlds.{LeavesFiles}
 use Rattle.cluster_rounds.specs.Broken.{LeavesBetween}
 use Rattle.cluster_rounds.specs.Scripts.{Script}
 use Rattle.group_servers.specs.declared.group.Group.{Group}
-use Rattle.group_servers.specs.GroupCounts.{FaultsGroup, FaultsLine, LacksGroup, RisesGroup, UsesGroup, UsesLine}
+use Rattle.group_servers.specs.GroupCounts.{FaultsGroup, FaultsLine, LacksBy, RisesGroup, UsesGroup, UsesLine}
 use Rattle.group_servers.specs.GroupNodes.{bare, servers_by}
 
 -- After a fault that no server survives the active one is down, the others are as they are left, and nothing is on the way; no server is
@@ -61,8 +61,8 @@ group_kit n = record {
       UsesGroup setup happened state outcome.state outcome.told (counters_of held) (counters_of left);
   Faults = λ setup happened state end held left.
       FaultsGroup setup happened state end.state (counters_of held) (counters_of left);
-  Lacks = λ setup state entries servers held left.
-      LacksGroup setup state entries servers.armed (counters_of held) (counters_of left);
+  Lacks = λ crash setup state entries servers held left.
+      LacksBy crash setup state entries servers (counters_of held) (counters_of left);
   Outlives = λ held left. held.faults ≤ left.faults;
   Rises = RisesGroup;
   Wild = λ servers net entries seen. ⊥;

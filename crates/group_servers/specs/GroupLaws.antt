@@ -38,7 +38,7 @@ use Rattle.cluster_rounds.specs.Seen.{counters_of}
 use Rattle.group_servers.specs.declared.group.Group.{Group}
 use Rattle.group_servers.specs.GroupCounts.{count_up}
 use Rattle.group_servers.specs.GroupKit.{group_kit}
-use Rattle.group_servers.specs.GroupUses.{faults-behind, lacks-behind, lacks-quiet, stood-later, up-on, uses-both, uses-none, uses-printed}
+use Rattle.group_servers.specs.GroupUses.{faults-behind, lacks-behind, lacks-none, lacks-quiet, stood-later, up-on, uses-both, uses-none, uses-printed}
 
 -- No step of the servers asks anything.
 
@@ -193,6 +193,13 @@ rests-up n setup begun = refl
 rests-up n setup (moved rests new core peers) = ap (λ (p : Peers). count_seats is_up p.seats) peers ∙ rests-up n setup rests
 rests-up n setup (accepted {now = now} rests entry empty) = up-on sent_to sent-up now.peers.seats ∙ rests-up n setup rests
 
+-- nor does another one become active
+pub rests-acting : (n : ℕ) (setup : Setup) {state new : State Peers} → Rests (calm_servers (group_kit n) setup) state new
+    → new.peers.acting ≡ state.peers.acting
+rests-acting n setup begun = refl
+rests-acting n setup (moved rests new core peers) = ap (λ (p : Peers). p.acting) peers ∙ rests-acting n setup rests
+rests-acting n setup (accepted rests entry empty) = rests-acting n setup rests
+
 pub group_laws : (n : ℕ) → IsKit (group_kit n)
 group_laws n = record {
   serves = λ plain device is_plain. group-serves n plain device is_plain;
@@ -215,11 +222,12 @@ group_laws n = record {
   read_armed = λ peers one two beside read is. read.armed ∙ is;
   read_left = λ setup state one two beside read tells. read.files ∙ left-same setup state one.files tells;
   read_lacks = λ setup state entries servers one two beside ends read faults.
-      lacks-quiet setup state entries servers.armed 0 (counters_of one) (counters_of two) ends read.changing faults read.stops;
+      lacks-quiet setup state entries servers 0 (counters_of one) (counters_of two) ends read.changing faults read.stops;
   read_outlives = λ one two beside read faults. stood-later (counters_of one) (counters_of two) faults;
   read_rises = λ one two beside read later rose. record { later = later; rose = rose };
   unused = λ setup state outcome seen rests.
-      uses-none setup state outcome.state outcome.told (counters_of seen) (rests-answered n setup rests) (rests-up n setup rests);
+      uses-none setup state outcome.state outcome.told (counters_of seen) (rests-answered n setup rests) (rests-up n setup rests)
+      (rests-acting n setup rests);
   used_both = λ setup one two state first second held told left before after.
       uses-both setup one two state first.state second.state first.told second.told
       (counters_of held) (counters_of told) (counters_of left) before after;
@@ -231,10 +239,9 @@ group_laws n = record {
   faults_behind = λ setup one two state first end held told left before after.
       faults-behind setup one two state first.state end.state first.told
       (counters_of held) (counters_of told) (counters_of left) before after;
-  lacks_same = λ setup state entries servers seen ends.
-      lacks-quiet setup state entries servers.armed 0 (counters_of seen) (counters_of seen) ends refl refl refl;
+  lacks_same = λ crash setup state entries servers seen ends. lacks-none crash setup state entries servers (counters_of seen) ends;
   lacks_behind = λ setup happened state first entries servers held told left before after.
-      lacks-behind setup happened state first.state first.told entries servers.armed
+      lacks-behind setup happened state first.state first.told entries servers
       (counters_of held) (counters_of told) (counters_of left) before after;
   stands = λ seen. le_refl seen.faults;
   further = λ one two three first second. le_trans first second;

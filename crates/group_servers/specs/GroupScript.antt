@@ -26,7 +26,7 @@ use Rattle.cluster_lines.specs.Following.{IsInHand, IsScript}
 use Rattle.cluster_lines.specs.Lines.{is_own, shows_files}
 use Rattle.cluster_lines.specs.Playing.{LooksBy}
 use Rattle.group_servers.specs.GroupCounts.{CountsLine, UsesGroup, UsesLine, count_up}
-use Rattle.group_servers.specs.GroupLaws.{rests-answered, rests-up}
+use Rattle.group_servers.specs.GroupLaws.{rests-acting, rests-answered, rests-up}
 use Rattle.group_servers.specs.GroupUses.{spent-none, stood-later, uses-printed, worked-same}
 use Rattle.group_servers.specs.GroupKit.{group_ends, group_kit, group_script}
 
@@ -58,14 +58,14 @@ calm-uses setup next state outcome held left same counts = record {
 -- a line that is not the servers' own asks nothing of the disk, unless it shows files
 unasked-counts : (next : Line) (device : Device) (held : Option Files) (old new : State Peers) (seen : Counters) → is_own next ≡ false
     → shows_files next ≡ false → new.world.core.answered ≡ old.world.core.answered → count_up new ≡ count_up old
-    → CountsLine next device held old new seen seen
-unasked-counts line.Work device held old new seen shared unshown same up = cc
-unasked-counts (line.Crash server) device held old new seen shared unshown same up = cc
-unasked-counts line.Settle device held old new seen shared unshown same up =
-    worked-same device old new seen same up
-unasked-counts line.Files device held old new seen shared unshown same up = cc
-unasked-counts (line.Cat name) device held old new seen shared unshown same up = cc
-unasked-counts _ device held old new seen shared unshown same up = spent-none seen
+    → new.peers.acting ≡ old.peers.acting → CountsLine next device held old new seen seen
+unasked-counts line.Work device held old new seen shared unshown same up leads = cc
+unasked-counts (line.Crash server) device held old new seen shared unshown same up leads = cc
+unasked-counts line.Settle device held old new seen shared unshown same up leads =
+    worked-same device old new seen same up leads
+unasked-counts line.Files device held old new seen shared unshown same up leads = cc
+unasked-counts (line.Cat name) device held old new seen shared unshown same up leads = cc
+unasked-counts _ device held old new seen shared unshown same up leads = spent-none seen
 
 -- one that shows files reads them
 shown-counts : (next : Line) (device : Device) (old new : State Peers) (one two : DiskSeen) → LooksBy next one.files true one.tally two.tally
@@ -109,7 +109,7 @@ group_follows n = record {
   unused = λ next setup state outcome seen shared unshown rests.
       calm-uses setup next state outcome seen seen refl
       (unasked-counts next (device_by setup (λ number. 0)) seen.files state outcome.state (counters_of seen) shared unshown (rests-answered n setup rests)
-      (rests-up n setup rests));
+      (rests-up n setup rests) (rests-acting n setup rests));
   read = λ next setup state outcome one two beside looks shared shown read faults rests.
       calm-uses setup next state outcome one two faults
       (shown-counts next (device_by setup (λ number. 0)) state outcome.state one two looks shown faults read.stops);

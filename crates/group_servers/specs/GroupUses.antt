@@ -1,5 +1,5 @@
 -- What the disk of servers counted in events in a row.
-use Rattle.std.specs.Prelude.{◌≡◌, ℕ, zero, suc, ◌+◌, ◌<◌, ◌≤◌, Bool, ◌||◌, if◌then◌else◌, Option, List, [], ◌∷◌, ◌++◌, length}
+use Rattle.std.specs.Prelude.{◌≡◌, ℕ, zero, suc, ◌+◌, ◌<◌, ◌≤◌, Bool, true, false, ◌||◌, if◌then◌else◌, Option, List, [], ◌∷◌, ◌++◌, length}
 use Rattle.std.proofs.Common.{inl, inr, refl, ap, sym, ◌∙◌, subst, arith, le_refl, le_trans}
 use Rattle.std.proofs.lemmas.Bool.{or_left, or_right}
 use Rattle.std.specs.List.{AllByRecursion, list_any}
@@ -8,6 +8,7 @@ use Rattle.std.proofs.lemmas.List.Folds.{list_any-append}
 use Rattle.ais_values.specs.Causes.{Rose, one_more}
 use Rattle.disk_model.specs.Counts.{Counters, many_more}
 use Rattle.plain_service.specs.Setups.{Setup}
+use Rattle.script_lines.specs.declared.line.Server.{Server}
 use Rattle.cluster_facts.specs.Lists.{EndsIn, without}
 use Rattle.cluster_facts.specs.Types.{Entry}
 use Rattle.cluster_events.specs.Lines.{Told, Ignored, is_ignored}
@@ -16,10 +17,13 @@ use Rattle.cluster_events.specs.Devices.{AgreesIn, Device, spliced}
 use Rattle.cluster_events.proofs.Devices.{agrees-first, agrees-second, caused-both}
 use Rattle.group_cluster.specs.Seats.{Peers, Seat, Stance, count_seats, is_up, on_seats}
 use Rattle.cluster_rounds.specs.Kits.{device_by}
-use Rattle.group_servers.specs.Deals.{AreDeals, ArmedAlong, Deal, Dealt, Falling, IsWay, LackedAt, Quiet, RoseTimes, Spent, Taking}
+use Rattle.group_servers.specs.declared.group.Group.{Group}
+use Rattle.group_servers.specs.Deals.{AreDeals, ArmedAlong, Deal, Dealt, Falling, IsWay, LackedAt, Quiet, RoseTimes, Spent}
 use Rattle.group_servers.specs.Deals.{calls_in, downs_at, downs_in, faults_by, faults_in, of_all, stops_in}
 use Rattle.group_servers.specs.Deals.AreDeals.{none, more}
-use Rattle.group_servers.specs.GroupCounts.{EndedIn, FaultsGroup, LacksGroup, TellsDown, UsesGroup, WorkedAll, count_up, is_down}
+use Rattle.group_servers.specs.GroupCounts.{EndedIn, FaultsGroup, HasFallen, HasFallenBehind, LacksBy, LacksCrash, LacksGroup, TellsDown, UsesGroup, WorkedAll}
+use Rattle.group_servers.specs.GroupCounts.{count_up, is_down}
+use Rattle.group_servers.specs.GroupCounts.LacksCrash.{Unasked, Taking}
 
 -- Counts that rose.
 
@@ -125,11 +129,12 @@ up-same : (old new : ℕ) → new ≡ old → old ≡ 0 + new
 up-same old new same = omega arith
 
 pub worked-same : (device : Device) (old new : State Peers) (seen : Counters) → new.world.core.answered ≡ old.world.core.answered
-    → count_up new ≡ count_up old → WorkedAll device old new seen seen
+    → count_up new ≡ count_up old → new.peers.acting ≡ old.peers.acting → WorkedAll device old new seen seen
 unfolding dealt-same
-worked-same device old new seen same up = record {
+worked-same device old new seen same up leads = record {
   dealt = dealt-same device old.world.core.answered new.world.core.answered seen same;
   downs = up-same (count_up old) (count_up new) up;
+  stays = λ nobody. leads;
 }
 
 -- the armed count along works in a row
@@ -144,6 +149,10 @@ armed-both calls one (deal ∷ two) before between after first second =
 downs-both : (one two : List Deal) (first middle last : ℕ) → first ≡ of_all downs_in one + middle → middle ≡ of_all downs_in two + last
     → first ≡ of_all downs_in (two ++ one) + last
 downs-both one two first middle last before after = let all = sum-append downs_in one two in omega arith
+
+-- none in both is none in each
+none-both : (one two : List Deal) → of_all downs_in (two ++ one) ≡ 0 → (of_all downs_in one ≡ 0) × (of_all downs_in two ≡ 0)
+none-both one two nobody = let all = sum-append downs_in one two in (omega arith, omega arith)
 
 downs-less : (one two : List Deal) (first middle last : ℕ) → first ≡ of_all downs_in one + middle → of_all downs_in two + last ≤ middle
     → of_all downs_in (two ++ one) + last ≤ first
@@ -191,6 +200,9 @@ module _ (setup : Setup) (one two : ℕ → ℕ) (first middle : State Peers) (h
   worked-both new left after = record {
     dealt = dealt-both new.world.core.answered left after.dealt;
     downs = downs-both before.dealt.deals after.dealt.deals (count_up first) (count_up middle) (count_up new) before.downs after.downs;
+    stays = λ nobody.
+        let each = none-both before.dealt.deals after.dealt.deals nobody in
+        after.stays each.1 ∙ before.stays each.0;
   }
 
   -- the work behind a longer history is that of the second event
@@ -224,21 +236,18 @@ module _ (setup : Setup) (one two : ℕ → ℕ) (first middle : State Peers) (h
             before.downs after.downs;
       }
 
-  lacked-both : (entries last : List Entry) (armed : Bool) (worked left : Counters) → length behind_it ≤ length last
-      → LackedAt (device_by setup two) entries last armed worked left → LackedAt (device_by setup both) entries last armed worked left
-  lacked-both entries last armed worked left grown (Quiet ends calls made faults stops) = Quiet ends calls made faults stops
-  lacked-both entries last armed worked left grown (Falling entry went row made is fallen fell way some spent unarmed counted) =
-      Falling entry went row made is fallen (behind-is last grown ∙ fell) way some spent unarmed counted
-  lacked-both entries last armed worked left grown (Taking one row made ends some most spent unarmed uncounted) =
-      Taking one row made ends some most spent unarmed uncounted
+  lacked-both : (entries last : List Entry) (Left : (made calls : ℕ) → Type 0) (worked left : Counters) → length behind_it ≤ length last
+      → LackedAt (device_by setup two) entries last Left worked left → LackedAt (device_by setup both) entries last Left worked left
+  lacked-both entries last Left worked left grown (Quiet ends calls made faults stops) = Quiet ends calls made faults stops
+  lacked-both entries last Left worked left grown (Falling entry went row made is fallen fell way some spent out counted) =
+      Falling entry went row made is fallen (behind-is last grown ∙ fell) way some spent out counted
 
-  lacked-downs : (entries last : List Entry) (armed : Bool) (worked left : Counters) (grown : length behind_it ≤ length last)
-      → (lacked : LackedAt (device_by setup two) entries last armed worked left)
-      → downs_at (lacked-both entries last armed worked left grown lacked) ≡ downs_at lacked
+  lacked-downs : (entries last : List Entry) (Left : (made calls : ℕ) → Type 0) (worked left : Counters) (grown : length behind_it ≤ length last)
+      → (lacked : LackedAt (device_by setup two) entries last Left worked left)
+      → downs_at (lacked-both entries last Left worked left grown lacked) ≡ downs_at lacked
   unfolding lacked-both
-  lacked-downs entries last armed worked left grown (Quiet ends calls made faults stops) = refl
-  lacked-downs entries last armed worked left grown (Falling entry went row made is fallen fell way some spent unarmed counted) = refl
-  lacked-downs entries last armed worked left grown (Taking one row made ends some most spent unarmed uncounted) = refl
+  lacked-downs entries last Left worked left grown (Quiet ends calls made faults stops) = refl
+  lacked-downs entries last Left worked left grown (Falling entry went row made is fallen fell way some spent out counted) = refl
 
 -- Lines that tell of a server that is down. Where the count of faults stood nothing is asked.
 
@@ -268,12 +277,13 @@ pub stood-later : (one two : Counters) → two.faults ≡ one.faults → one.fau
 stood-later one two same = subst (λ (n : ℕ). one.faults ≤ n) (sym same) (le_refl one.faults)
 
 pub uses-none : (setup : Setup) (old new : State Peers) (told : List Told) (seen : Counters)
-    → new.world.core.answered ≡ old.world.core.answered → count_up new ≡ count_up old → UsesGroup setup (λ number. 0) old new told seen seen
-uses-none setup old new told seen same up = record {
+    → new.world.core.answered ≡ old.world.core.answered → count_up new ≡ count_up old → new.peers.acting ≡ old.peers.acting
+    → UsesGroup setup (λ number. 0) old new told seen seen
+uses-none setup old new told seen same up leads = record {
   caused = λ never number. refl;
   later = le_refl seen.faults;
   felled = down-none seen.faults told;
-  worked = worked-same (device_by setup (λ number. 0)) old new seen same up;
+  worked = worked-same (device_by setup (λ number. 0)) old new seen same up leads;
 }
 
 pub uses-both : (setup : Setup) (one two : ℕ → ℕ) (old middle new : State Peers) (first second : List Told) (held between left : Counters)
@@ -317,10 +327,10 @@ none-down : (n : ℕ) → 0 + 0 ≤ n
 none-down n = omega arith
 
 -- no call failed, and the disk did not stop
-pub lacks-quiet : (setup : Setup) (state : State Peers) (entries : List Entry) (armed : Bool) (calls : ℕ) (held left : Counters)
+pub lacks-quiet : {n : ℕ} (setup : Setup) (state : State Peers) (entries : List Entry) (servers : Group n) (calls : ℕ) (held left : Counters)
     → EndsIn entries state.world.core.answered → left.tally.changing ≡ many_more calls held.tally.changing → left.faults ≡ held.faults
-    → left.stops ≡ held.stops → LacksGroup setup state entries armed held left
-lacks-quiet setup state entries armed calls held left ends made faults stops = record {
+    → left.stops ≡ held.stops → LacksGroup setup state entries servers held left
+lacks-quiet setup state entries servers calls held left ends made faults stops = record {
   happened = λ number. 0;
   past = state.world.core.answered;
   worked = held;
@@ -329,39 +339,136 @@ lacks-quiet setup state entries armed calls held left ends made faults stops = r
   downs = none-down (count_up state);
 }
 
-pub lacks-behind : (setup : Setup) (happened : ℕ → ℕ) (old middle : State Peers) (first : List Told) (entries : List Entry) (armed : Bool)
-    (held between left : Counters) → UsesGroup setup happened old middle first held between → LacksGroup setup middle entries armed between left
-    → LacksGroup setup old entries armed held left
+-- What it left of the servers is told of others that are told alike.
+
+lacked-as : (device : Device) (entries last : List Entry) (Left New : (made calls : ℕ) → Type 0) (before after : Counters)
+    → ((made calls : ℕ) → Left made calls → New made calls) → LackedAt device entries last Left before after
+    → LackedAt device entries last New before after
+lacked-as device entries last Left New before after to (Quiet ends calls made faults stops) = Quiet ends calls made faults stops
+lacked-as device entries last Left New before after to (Falling entry went row made is fallen fell way some spent out counted) =
+    Falling entry went row made is fallen fell way some spent (to made (device.calls last entry) out) counted
+
+as-downs : (device : Device) (entries last : List Entry) (Left New : (made calls : ℕ) → Type 0) (before after : Counters)
+    (to : (made calls : ℕ) → Left made calls → New made calls) (lacked : LackedAt device entries last Left before after)
+    → downs_at (lacked-as device entries last Left New before after to lacked) ≡ downs_at lacked
+unfolding lacked-as
+as-downs device entries last Left New before after to (Quiet ends calls made faults stops) = refl
+as-downs device entries last Left New before after to (Falling entry went row made is fallen fell way some spent out counted) = refl
+
+-- the one that was active before an event, by those that fell in it first
+fallen-first : {n : ℕ} (all one two : ℕ) (old middle : Server) (servers : Group n) → one + two ≡ all → (one ≡ 0 → middle ≡ old) → (made calls : ℕ)
+    → HasFallenBehind two middle servers made calls → HasFallenBehind all old servers made calls
+fallen-first zero one two old middle servers sum stays made calls out =
+    let nobody : two ≡ 0 = omega arith in
+    let first : HasFallen middle servers made calls = subst (λ (fell : ℕ). HasFallenBehind fell middle servers made calls) nobody out in
+    subst (λ (server : Server). HasFallen server servers made calls) (stays (omega arith)) first
+fallen-first (suc all) one zero old middle servers sum stays made calls out = out.unarmed
+fallen-first (suc all) one (suc two) old middle servers sum stays made calls out = out
+
+pub lacks-behind : {n : ℕ} (setup : Setup) (happened : ℕ → ℕ) (old middle : State Peers) (first : List Told) (entries : List Entry) (servers : Group n)
+    (held between left : Counters) → UsesGroup setup happened old middle first held between → LacksGroup setup middle entries servers between left
+    → LacksGroup setup old entries servers held left
 unfolding dealt-both
-lacks-behind setup happened old middle first entries armed held between left before after =
+lacks-behind setup happened old middle first entries servers held between left before after =
     let worked = before.worked in
     let grown = deals-grow after.dealt.are in
-    let bound : ℕ → Type 0 = λ n. of_all downs_in (after.dealt.deals ++ worked.dealt.deals) + n ≤ count_up old in
+    let ones = worked.dealt.deals in
+    let twos = after.dealt.deals in
+    let device = device_by setup after.happened in
+    let bound : ℕ → Type 0 = λ n. of_all downs_in (twos ++ ones) + n ≤ count_up old in
+    let Left : (made calls : ℕ) → Type 0 = λ made calls. HasFallenBehind (of_all downs_in twos) middle.peers.acting servers made calls in
+    let New : (made calls : ℕ) → Type 0 = λ made calls. HasFallenBehind (of_all downs_in (twos ++ ones)) old.peers.acting servers made calls in
+    let to : (made calls : ℕ) → Left made calls → New made calls = λ made calls out.
+    fallen-first (of_all downs_in (twos ++ ones)) (of_all downs_in ones) (of_all downs_in twos) old.peers.acting middle.peers.acting servers
+    (sum-append downs_in ones twos) worked.stays made calls out
+    in
+    let lacked = lacked-as device entries after.past Left New after.worked left to after.lacked in
     record {
       happened = spliced (length middle.world.core.answered) happened after.happened;
       past = after.past;
       worked = after.worked;
       dealt = dealt-both setup happened after.happened old middle held between worked after.past after.worked after.dealt;
-      lacked = lacked-both setup happened after.happened old middle held between worked entries after.past armed after.worked left grown after.lacked;
+      lacked = lacked-both setup happened after.happened old middle held between worked entries after.past New after.worked left grown lacked;
       downs =
           subst bound
-          (sym (lacked-downs setup happened after.happened old middle held between worked entries after.past armed after.worked left grown after.lacked))
+          (sym
+          (lacked-downs setup happened after.happened old middle held between worked entries after.past New after.worked left grown lacked
+          ∙ as-downs device entries after.past Left New after.worked left to after.lacked))
           (downs-less worked.dealt.deals after.dealt.deals (count_up old) (count_up middle) (downs_at after.lacked) worked.downs after.downs);
     }
 
 dealt-later : (device : Device) (old new : List Entry) (held left : Counters) → Dealt device old new held left → held.faults ≤ left.faults
 dealt-later device old new held left dealt = times-later (of_all faults_in dealt.deals) held.faults left.faults dealt.spent.faults
 
-lacked-later : (device : Device) (entries last : List Entry) (armed : Bool) (held left : Counters) → LackedAt device entries last armed held left
-    → held.faults ≤ left.faults
-lacked-later device entries last armed held left (Quiet ends calls made faults stops) = stood-later held left faults
-lacked-later device entries last armed held left (Falling entry went row made is fallen fell way some spent unarmed counted) =
+lacked-later : (device : Device) (entries last : List Entry) (Left : (made calls : ℕ) → Type 0) (held left : Counters)
+    → LackedAt device entries last Left held left → held.faults ≤ left.faults
+lacked-later device entries last Left held left (Quiet ends calls made faults stops) = stood-later held left faults
+lacked-later device entries last Left held left (Falling entry went row made is fallen fell way some spent out counted) =
     times-later (faults_by went + length row) held.faults left.faults spent.faults
-lacked-later device entries last armed held left (Taking one row made ends some most spent unarmed uncounted) =
-    times-later (suc (length row)) held.faults left.faults spent.faults
 
-pub lacks-later : (setup : Setup) (state : State Peers) (entries : List Entry) (armed : Bool) (held left : Counters)
-    → LacksGroup setup state entries armed held left → held.faults ≤ left.faults
-lacks-later setup state entries armed held left lacks =
+pub lacks-later : {n : ℕ} (setup : Setup) (state : State Peers) (entries : List Entry) (servers : Group n) (held left : Counters)
+    → LacksGroup setup state entries servers held left → held.faults ≤ left.faults
+lacks-later setup state entries servers held left lacks =
     le_trans (dealt-later (device_by setup lacks.happened) state.world.core.answered lacks.past held lacks.worked lacks.dealt)
-    (lacked-later (device_by setup lacks.happened) entries lacks.past armed lacks.worked left lacks.lacked)
+    (lacked-later (device_by setup lacks.happened) entries lacks.past
+    (λ made calls. HasFallenBehind (of_all downs_in lacks.dealt.deals) state.peers.acting servers made calls) lacks.worked left lacks.lacked)
+
+-- nothing was asked of the disk
+pub lacks-none : {n : ℕ} (crash : Bool) (setup : Setup) (state : State Peers) (entries : List Entry) (servers : Group n) (seen : Counters)
+    → EndsIn entries state.world.core.answered → LacksBy crash setup state entries servers seen seen
+lacks-none true setup state entries servers seen ends = Unasked ends (spent-none seen) refl
+lacks-none false setup state entries servers seen ends = lacks-quiet setup state entries servers 0 seen seen ends refl refl refl
+
+pub crash-later : {n : ℕ} (setup : Setup) (state : State Peers) (entries : List Entry) (servers : Group n) (held left : Counters)
+    → LacksCrash setup state entries servers held left → held.faults ≤ left.faults
+crash-later setup state entries servers held left (Unasked ends spent armed) = stood-later held left spent.faults
+crash-later setup state entries servers held left (Taking row made last some most spent few out uncounted) =
+    times-later (length row) held.faults left.faults spent.faults
+
+-- Servers of which the same is told: whether one is armed, and of this one, where it leads, that it does and how it is.
+pub record AreToldAlike {n : ℕ} (acting : Server) (one two : Group n) : Type 0 where
+  pub armed : two.armed ≡ one.armed
+  pub leads : one.acting ≡ acting → (two.acting ≡ acting) × (two.active ≡ one.active)
+
+fallen-alike : {n : ℕ} (acting : Server) (one two : Group n) → AreToldAlike acting one two → (made calls : ℕ) → HasFallen acting one made calls
+    → HasFallen acting two made calls
+fallen-alike acting one two alike made calls fallen = record {
+  unarmed = alike.armed ∙ fallen.unarmed;
+  out =
+      elim fallen.out [
+        | inl is ↦ inl ((alike.leads is.0).0, (alike.leads is.0).1 ∙ is.1)
+        | inr all ↦ inr all
+      ];
+}
+
+behind-alike : {n : ℕ} (fell : ℕ) (acting : Server) (one two : Group n) → AreToldAlike acting one two → (made calls : ℕ)
+    → HasFallenBehind fell acting one made calls → HasFallenBehind fell acting two made calls
+behind-alike zero acting one two alike made calls fallen = fallen-alike acting one two alike made calls fallen
+behind-alike (suc fell) acting one two alike made calls fallen = alike.armed ∙ fallen
+
+crash-alike : {n : ℕ} (setup : Setup) (state : State Peers) (entries : List Entry) (one two : Group n) (held left : Counters)
+    → AreToldAlike state.peers.acting one two → LacksCrash setup state entries one held left → LacksCrash setup state entries two held left
+crash-alike setup state entries one two held left alike (Unasked ends spent armed) = Unasked ends spent armed
+crash-alike setup state entries one two held left alike (Taking row made last some most spent few out uncounted) =
+    Taking row made last some most spent few (fallen-alike state.peers.acting one two alike _ _ out) uncounted
+
+pub lacks-alike : {n : ℕ} (crash : Bool) (setup : Setup) (state : State Peers) (entries : List Entry) (one two : Group n) (held left : Counters)
+    → AreToldAlike state.peers.acting one two → LacksBy crash setup state entries one held left → LacksBy crash setup state entries two held left
+lacks-alike true setup state entries one two held left alike lacks = crash-alike setup state entries one two held left alike lacks
+lacks-alike false setup state entries one two held left alike lacks =
+    let fell = of_all downs_in lacks.dealt.deals in
+    let device = device_by setup lacks.happened in
+    let acting = state.peers.acting in
+    let Left : (made calls : ℕ) → Type 0 = λ made calls. HasFallenBehind fell acting one made calls in
+    let New : (made calls : ℕ) → Type 0 = λ made calls. HasFallenBehind fell acting two made calls in
+    let to : (made calls : ℕ) → Left made calls → New made calls = λ made calls out. behind-alike fell acting one two alike made calls out in
+    record {
+      happened = lacks.happened;
+      past = lacks.past;
+      worked = lacks.worked;
+      dealt = lacks.dealt;
+      lacked = lacked-as device entries lacks.past Left New lacks.worked left to lacks.lacked;
+      downs =
+          subst (λ (last : ℕ). fell + last ≤ count_up state)
+          (sym (as-downs device entries lacks.past Left New lacks.worked left to lacks.lacked)) lacks.downs;
+    }

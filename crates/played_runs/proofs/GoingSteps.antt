@@ -161,11 +161,11 @@ module _ {P L S W : Type 0} (game : Game P L S W) (is_game : IsGame game) where
     line-events mid left Since old new done next others front going since (Some Inseparable) text ends = absurd ends
 
     -- memory that was wanting in a line was wanting behind those before it
-    pub line-lacks : (mid left : DiskSeen) (old new : W) (done : List L) (next : L) (others : List L) (front : List ℕ) → (going : (Going game) setup places held first mid old done front) → (text : List ℕ) → (LineLacks game) setup going.state mid left new text → (LacksBehind game) setup places held first left new (done ++ next ∷ others) (front ++ text)
+    pub line-lacks : (mid left : DiskSeen) (old new : W) (done : List L) (next : L) (others : List L) (front : List ℕ) → (going : (Going game) setup places held first mid old done front) → (text : List ℕ) → (LineLacks game) setup going.state next mid left new text → (LacksBehind game) setup places held first left new (done ++ next ∷ others) (front ++ text)
     line-lacks mid left old new done next others front going text lacks =
         let seen = going-seen mid old done front going in
         let B : DiskSeen → Type 0 = λ one. (Broken game) setup going.state one left new in
-        let S : DiskSeen → Type 0 = λ one. (Lacks game) setup going.state one left new in
+        let S : DiskSeen → Type 0 = λ one. (Lacks game) setup going.state next one left new in
         let Lacked : List ℕ → Type 0 = λ one. (LacksBehind game) setup places held first left new (done ++ next ∷ others) one in
         let whole : Lacked front =
         record {
@@ -208,13 +208,13 @@ module _ {P L S W : Type 0} (game : Game P L S W) (is_game : IsGame game) where
           Whole behind.text (subst P (sym all) (going-plays left world behind.done behind.text behind.going), (refl, disk_on)) sink_stood behind.appended
 
       -- a line that ended the run
-      pub behind-ends : (one mid last : K) (disk left : DiskSeen) (start between later : ℕ) (Since : Option Files → Counters → Type 0) (old new : W) (events : List L) (next : L) (others : List L) (status : Status8) → (behind : (Behind game) setup places held first disk old (edge told faults one mid) events (next ∷ others)) → faults mid ≡ faults one → start ≤ between → Since disk.files (counters_of disk) → Ended unasked (between, later) ((LineEnds game) setup behind.going.state next disk left new) ((LineLacks game) setup behind.going.state disk left new) (edge told faults mid last) status → Ended unasked (start, later) ((EventsEnd game) setup places held first left Since new events) ((LacksBehind game) setup places held first left new events) (edge told faults one last) status
+      pub behind-ends : (one mid last : K) (disk left : DiskSeen) (start between later : ℕ) (Since : Option Files → Counters → Type 0) (old new : W) (events : List L) (next : L) (others : List L) (status : Status8) → (behind : (Behind game) setup places held first disk old (edge told faults one mid) events (next ∷ others)) → faults mid ≡ faults one → start ≤ between → Since disk.files (counters_of disk) → Ended unasked (between, later) ((LineEnds game) setup behind.going.state next disk left new) ((LineLacks game) setup behind.going.state next disk left new) (edge told faults mid last) status → Ended unasked (start, later) ((EventsEnd game) setup places held first left Since new events) ((LacksBehind game) setup places held first left new events) (edge told faults one last) status
       behind-ends one mid last disk left start between later Since old new events next others status behind sink before since ended =
           let all = behind.done ++ next ∷ others in
           let front = behind.text in
           let E = Counting unasked (between, later) ((LineEnds game) setup behind.going.state next disk left new) in
           let F = Counting unasked (start, later) ((EventsEnd game) setup places held first left Since new all) in
-          let Before = Standing unasked (between, later) ((LineLacks game) setup behind.going.state disk left new) in
+          let Before = Standing unasked (between, later) ((LineLacks game) setup behind.going.state next disk left new) in
           let M = Standing unasked (start, later) ((LacksBehind game) setup places held first left new all) in
           let W : List L → Type 0 = λ lines. Ended unasked (start, later) ((EventsEnd game) setup places held first left Since new lines) ((LacksBehind game) setup places held first left new lines) (edge told faults one last) status in
           subst W (sym behind.parts) (written-behind told faults one mid last E F Before M front status behind.appended sink (λ reached text ends. (line-events disk left Since old new behind.done next others front behind.going since reached text ends.0, line-counts start between later before disk left behind.going.state next new reached text ends.0 ends.1)) (λ text lacks. (line-lacks disk left old new behind.done next others front behind.going text lacks.0, lacks.1, on-behind start between later before lacks.2)) ended)

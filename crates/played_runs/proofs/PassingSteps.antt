@@ -100,7 +100,7 @@ module _ {P L S W : Type 0} (game : Game P L S W) (is_game : IsGame game) where
       λ setup places held first done text going.
       (text ++ joined_lines lines, going-next game is_game setup places held first mid left old new done text next lines going (does setup going.state going.good going.shows going.armed (going-tells game is_game setup places held first mid old done text going)))
 
-  pub passes-broken : (Since : Option Files → Counters → Type 0) (next : L) (mid left : DiskSeen) (old new : W) → (BreaksOn game) old new mid left → (Passes game) Since (next ∷ []) mid left old new (Err Memory)
+  pub passes-broken : (Since : Option Files → Counters → Type 0) (next : L) (mid left : DiskSeen) (old new : W) → (BreaksOn game) next old new mid left → (Passes game) Since (next ∷ []) mid left old new (Err Memory)
   passes-broken Since next mid left old new breaks =
       λ setup places held first done text going.
       let broken = breaks setup going.state going.good going.shows going.armed in

@@ -97,5 +97,5 @@ pub data PlayLacks {P L S W K D : Type 0} (game : Game P L S W) (script : List L
       (done : List L) (next : L) (rest : List L)
       (front : (PlaysFront game) (before scene.disk) (first_count scene) script done (next ∷ rest) text)
       → (Broken game) front.setup front.goes.state ((seen_behind game) front.goes) (disk_left scene) scene.world_after
-      → (Lacks game) front.setup front.goes.state ((seen_behind game) front.goes) (disk_left scene) scene.world_after
+      → (Lacks game) front.setup front.goes.state next ((seen_behind game) front.goes) (disk_left scene) scene.world_after
       → PlayLacks game script scene text

@@ -119,16 +119,16 @@ module _ {P L S W : Type 0} (game : Game P L S W) where
       (cluster.Broken game.kit) setup state (game.kit.see held none_seen) (game.kit.see left none_seen) (game.parts state.peers world)
 
   -- and history, servers and disk are as that leaves them
-  abbrev pub Lacks : Setup → State P → DiskSeen → DiskSeen → W → Type 0
-  Lacks setup state held left world =
-      game.kit.Lacks setup state (game.parts state.peers world).history.entries (game.parts state.peers world).servers
+  abbrev pub Lacks : Setup → State P → L → DiskSeen → DiskSeen → W → Type 0
+  Lacks setup state next held left world =
+      game.kit.Lacks (game.crashes next) setup state (game.parts state.peers world).history.entries (game.parts state.peers world).servers
       (game.kit.see held none_seen) (game.kit.see left none_seen)
 
   -- so it is over each good state that the world and the disk stood for
-  abbrev pub BreaksOn : W → W → DiskSeen → DiskSeen → Type 0
-  BreaksOn old new held left =
+  abbrev pub BreaksOn : L → W → W → DiskSeen → DiskSeen → Type 0
+  BreaksOn next old new held left =
       (setup : Setup) (state : State P) → IsGood setup state → Shows setup state old → IsArmedBy state held.tally.armed
-      → Broken setup state held left new × Lacks setup state held left new
+      → Broken setup state held left new × Lacks setup state next held left new
 
   -- the disk had a fault that left no server active: over each good state that the world and the disk stood for the event ended there, and
   -- these lines were printed
@@ -147,5 +147,5 @@ module _ {P L S W : Type 0} (game : Game P L S W) where
 
   -- what a line left that was not done, by the answer
   abbrev pub EventBroken : EventAnswer → L → W → W → DiskSeen → DiskSeen → Type 0
-  EventBroken Memory next old new held left = BreaksOn old new held left
+  EventBroken Memory next old new held left = BreaksOn next old new held left
   EventBroken (DiskFault lines) next old new held left = FaultLeaves next old new [] lines held left

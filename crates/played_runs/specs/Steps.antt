@@ -82,16 +82,16 @@ module _ {P L S W : Type 0} (game : Game P L S W) where
   LineEnds setup state next held left world _ text = ⊥
 
   -- memory was wanting as a line was played, before anything of it was written
-  abbrev pub LineLacks : Setup → State P → DiskSeen → DiskSeen → W → List ℕ → Type 0
-  LineLacks setup state held left world text =
-      (text ≡ []) × (Broken game) setup state held left world × (Lacks game) setup state held left world
+  abbrev pub LineLacks : Setup → State P → L → DiskSeen → DiskSeen → W → List ℕ → Type 0
+  LineLacks setup state next held left world text =
+      (text ≡ []) × (Broken game) setup state held left world × (Lacks game) setup state next held left world
 
   -- a line was played, over each good state that the world and the disk stood for
   abbrev pub PlaysLine : {K : Type 0} → L → DiskSeen → DiskSeen → W → W → Edge K (List ℕ) → Result Unit Status8 → Type 0
   PlaysLine next held left old new sink result =
       (setup : Setup) (state : State P) → (IsGood game) setup state → (Shows game) setup state old → (IsArmedBy game) state held.tally.armed
       → TellsFiles setup state held.files
-      → LineGives (held.faults, left.faults) (LineEnds setup state next held left new) (LineLacks setup state held left new) sink result
+      → LineGives (held.faults, left.faults) (LineEnds setup state next held left new) (LineLacks setup state next held left new) sink result
 
   -- lines were played, and world and disk stand where they led
   pub record Plays (setup : Setup) (places : ℕ) (held : Option Files) (first : Counters) (left : DiskSeen) (world : W) (lines : List L)
@@ -112,7 +112,7 @@ module _ {P L S W : Type 0} (game : Game P L S W) where
       (front : List ℕ) : Type 0 where
     pub behind : BreaksBehind setup places held first events front
     pub broken : (Broken game) setup behind.goes.state ((seen_behind game) behind.goes) left world
-    pub lacks : (Lacks game) setup behind.goes.state ((seen_behind game) behind.goes) left world
+    pub lacks : (Lacks game) setup behind.goes.state behind.next ((seen_behind game) behind.goes) left world
 
   -- by a fault of the disk, which told the files of the events before and counted what they counted
   pub record FaultsBehind (setup : Setup) (places : ℕ) (held : Option Files) (first : Counters) (left : DiskSeen)

@@ -13,6 +13,7 @@ use Rattle.trio_lines.specs.declared.line.TrioLine.{TrioLine}
 use Rattle.trio_lines.specs.declared.line.TrioLine.TheVariants.{Plain, Crash}
 use Rattle.cluster_events.specs.Lines.{Told}
 use Rattle.cluster_events.specs.Servers.{State}
+use Rattle.cluster_events.specs.Ending.{is_crash}
 use Rattle.event_text.specs.Texts.{printed}
 use Rattle.group_cluster.specs.Seats.{Peers, count_seats, is_standby}
 use Rattle.cluster_rounds.specs.declared.cluster.Cluster.{Cluster}
@@ -24,6 +25,7 @@ use Rattle.cluster_lines.specs.Playing.{FaultLeaves as FaultLeavesParts, LineEnd
 use Rattle.group_servers.specs.declared.group.Group.{Group}
 use Rattle.group_servers.specs.GroupKit.{group_kit, group_script}
 use Rattle.group_servers.specs.GroupCounts.{CountsLine, FellIn}
+use Rattle.group_servers.specs.GroupUses.{lacks-alike}
 use Rattle.played_runs.specs.Games.{Broken, BreaksOn, DoesEvent, EndsEvent, FaultLeaves, HasState, Lacks}
 use Rattle.played_runs.specs.Views.{counters_of}
 use Rattle.spare_server.specs.declared.world.TrioWorld.{TrioWorld}
@@ -34,7 +36,7 @@ use Rattle.spare_server.specs.Parts.{BreaksWhole, PlaysWhole, acting_in, whole_o
 use Rattle.spare_server.specs.Standbys.{FollowsBehind}
 use Rattle.spare_server.specs.Worlds.{IsGood, Shows, parts_of}
 use Rattle.spare_server.proofs.StandbySteps.{all-follow}
-use Rattle.spare_server.proofs.ThreeSeats.{acts-in, fallen-seats, parts-back, same-whole, shown-seats}
+use Rattle.spare_server.proofs.ThreeSeats.{acts-in, fallen-seats, parts-back, same-whole, shown-seats, told-alike}
 
 parts-show : (setup : Setup) (state : State Peers) (world : TrioWorld) → IsGood setup state → Shows setup state world → (clusters.Shows (group_kit 3)) setup state (parts_of (acting_in world) world)
 parts-show setup state world good shows =
@@ -120,15 +122,19 @@ parts-broken acting setup state held left parts broken = record {
   files = broken.files;
 }
 
-pub lacks-event : (next : TrioLine) (old new : TrioWorld) (before after : List (List ℕ)) (held left : DiskSeen) → BreaksWhole Memory next old new before after held left → (BreaksOn trio_game) old new held left
+pub lacks-event : (next : TrioLine) (old new : TrioWorld) (before after : List (List ℕ)) (held left : DiskSeen) → BreaksWhole Memory next old new before after held left → (BreaksOn trio_game) next old new held left
 lacks-event next old new before after held left whole setup state good shows armed =
     let parts = whole.0 in
     let broken = whole.2 setup state good (parts-show setup state old good shows) armed in
-    subst (λ (w : TrioWorld). (Broken trio_game) setup state held left w × (Lacks trio_game) setup state held left w) (sym whole.1)
-    (parts-broken state.peers.acting setup state held left parts broken.0, broken.1)
+    let acting = state.peers.acting in
+    subst (λ (w : TrioWorld). (Broken trio_game) setup state held left w × (Lacks trio_game) setup state next held left w) (sym whole.1) (
+      parts-broken acting setup state held left parts broken.0,
+      lacks-alike (is_crash (group_line next)) setup state parts.history.entries parts.servers (parts_of acting (whole_of parts)).servers (counters_of held)
+          (counters_of left) (told-alike acting parts) broken.1,
+    )
 
 -- no event of a state ends as the disk stops
-pub stops-event : (next : TrioLine) (old new : TrioWorld) (before after : List (List ℕ)) (held left : DiskSeen) → BreaksWhole Stopped next old new before after held left → (BreaksOn trio_game) old new held left
+pub stops-event : (next : TrioLine) (old new : TrioWorld) (before after : List (List ℕ)) (held left : DiskSeen) → BreaksWhole Stopped next old new before after held left → (BreaksOn trio_game) next old new held left
 stops-event next old new before after held left whole setup state good shows armed =
     absurd (whole.2 setup state good (parts-show setup state old good shows) armed)
 

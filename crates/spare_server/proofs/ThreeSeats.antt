@@ -15,9 +15,10 @@ use Rattle.group_cluster.specs.Seats.{Stance, Out, Owed, Linking, Standby, Peers
 use Rattle.cluster_rounds.specs.declared.cluster.Cluster.{Cluster}
 use Rattle.group_servers.specs.declared.group.Seat.{Seat}
 use Rattle.group_servers.specs.declared.group.Group.{Group}
+use Rattle.group_servers.specs.GroupUses.{AreToldAlike}
 use Rattle.group_servers.specs.GroupNodes.{active_by, bare, bare_by, node_by, seats_by, servers_of, to_server, from_server}
 use Rattle.spare_server.specs.declared.world.TrioWorld.{TrioWorld}
-use Rattle.spare_server.specs.Parts.{acting_in, is_active, whole_of}
+use Rattle.spare_server.specs.Parts.{acting_in, first_seat, is_active, second_seat, third_seat, whole_of}
 use Rattle.spare_server.specs.Worlds.{empty_trio, node_of, parts_of, seats_of, with_node}
 
 -- Three servers of a good state.
@@ -158,6 +159,21 @@ parts-back parts are =
     let with_seats : List Seat → Cluster (Group 3) = λ seats. record parts { servers = record parts.servers { seats = seats } } in
     subst (λ (seats : List Seat). parts_of parts.servers.acting (whole_of (with_seats seats)) ≡ with_seats seats) (sym are.is)
     (parts-by parts.servers.acting are.world parts)
+
+-- where it led still, the server that was active is in the world as in its parts
+pub told-alike : (acting : Server) (parts : Cluster (Group 3)) → AreToldAlike acting parts.servers (parts_of acting (whole_of parts)).servers
+told-alike A parts =
+    let own = parts.servers.active in
+    let seat = (first_seat parts.servers.seats).node in
+    record { armed = refl; leads = λ is. (refl, ap (λ (server : Server). if same_server server A then own else seat) is) }
+told-alike B parts =
+    let own = parts.servers.active in
+    let seat = (second_seat parts.servers.seats).node in
+    record { armed = refl; leads = λ is. (refl, ap (λ (server : Server). if same_server server B then own else seat) is) }
+told-alike C parts =
+    let own = parts.servers.active in
+    let seat = (third_seat parts.servers.seats).node in
+    record { armed = refl; leads = λ is. (refl, ap (λ (server : Server). if same_server server C then own else seat) is) }
 
 -- Who is active.
 

@@ -1,4 +1,4 @@
-use Rattle.std.proofs.Common.{rules}
+use Rattle.std.proofs.Common.{rules, true}
 use Rattle.cluster_rounds.specs.Worlds.{any_state}
 use Rattle.cluster_rounds.proofs.ArmedSteps.{state-told}
 use Rattle.cluster_rounds.proofs.BrokenSteps.{broken-ends}
@@ -41,4 +41,4 @@ returns-in-Err-clause-err g c =
     let held = g.D.SharedDisk.seen c.args.disk.now in
     λ setup state good shows armed.
     let broken = untold-breaks g.row.N setup state held old new good shows untold.net untold.agents untold.history untold.now untold.armed in
-    (broken, (group_laws g.row.N).lacks_same setup state new.history.entries new.servers held ((broken-ends (group_kit g.row.N) (group_laws g.row.N)) setup state held held new broken))
+    (broken, (group_laws g.row.N).lacks_same true setup state new.history.entries new.servers held ((broken-ends (group_kit g.row.N) (group_laws g.row.N)) setup state held held new broken))

@@ -88,7 +88,7 @@ returns-in-Err-rejoin g c = λ before long is.
     let many = c.count_takers-count.ensures.is ∙ ap (λ (seats : List Seat). length (takers fresh seats)) c.drop_ways.ensures in
     let T : List Seat → Type 0 = λ seats. Tries fresh seats c.first_takeover.new.seats (Some c.in-Ok-Some.place) start left in
     let tries = subst T c.drop_ways.ensures came in
-    record { unarmed = refl; start = start; started = started; part = inr (c.first_takeover.new.seats, c.in-Ok-Some.place, tries) }
+    record { unarmed = refl; start = start; started = started; part = inr (c.first_takeover.new.seats, c.in-Ok-Some.place, tries); stays = tt }
 
 pub returns-in-Ok-None : goal.returns-in-Ok-None
 returns-in-Ok-None g c = λ before long is.
@@ -115,4 +115,4 @@ returns-in-Err g c = λ before long is.
     let started : IsDisarmed held start = record { files = c.disarm.ensures.same; faults = c.disarm.ensures.faults_stay; armed = ap (λ (t : Tally). t.armed) c.disarm.ensures.counted; tally = c.disarm.ensures.counted; stops = c.disarm.ensures.stops_stay } in
     let many = c.count_takers-count.ensures.is ∙ ap (λ (seats : List Seat). length (takers fresh seats)) c.drop_ways.ensures in
     let P : List Seat → Type 0 = λ seats. TriesPartly fresh seats start left in
-    takes-partly g.row.N fresh old held start started c.count_takers-count.result many _ before c.args.lines.now.items left c.in-Err.answer refl (subst P c.drop_ways.ensures c.in-Err.ensures.lacks) (λ is. c.in-Err.ensures.never_failed (ap Err is)) (λ is. c.in-Err.ensures.never_stopped (ap Err is))
+    takes-partly g.row.N fresh old held start started c.count_takers-count.result many _ before c.args.lines.now.items left c.in-Err.answer refl refl refl (subst P c.drop_ways.ensures c.in-Err.ensures.lacks) (λ is. c.in-Err.ensures.never_failed (ap Err is)) (λ is. c.in-Err.ensures.never_stopped (ap Err is))

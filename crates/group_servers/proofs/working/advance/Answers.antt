@@ -1,4 +1,4 @@
-use Rattle.std.proofs.Common.{rules, ℕ, Bool, true, ◌≡◌, None, List, refl, ◌∙◌, subst}
+use Rattle.std.proofs.Common.{rules, ℕ, Bool, true, false, ◌≡◌, None, List, refl, ◌∙◌, subst}
 use Rattle.std.specs.Prelude.{IsSome}
 use Rattle.group_cluster.specs.Group.{mirror_group, ack_group}
 use Rattle.cluster_rounds.specs.declared.cluster.Cluster.{Cluster}
@@ -105,7 +105,7 @@ returns-in-Err-clause-err g c = λ setup state good shows armed told.
     let held = g.D.SharedDisk.seen c.args.disk.now in
     let new = c.mirror.new.world in
     let broken = c.in-Err.ensures.err held setup state good shows in
-    (broken, (group_laws g.row.N).lacks_same setup state new.history.entries new.servers held ((broken-ends (group_kit g.row.N) (group_laws g.row.N)) setup state held held new broken))
+    (broken, (group_laws g.row.N).lacks_same false setup state new.history.entries new.servers held ((broken-ends (group_kit g.row.N) (group_laws g.row.N)) setup state held held new broken))
 
 pub returns-in-Err-ack-clause-err : goal.returns-in-Err-ack-clause-err
 returns-in-Err-ack-clause-err g c = λ setup state good shows armed told.
@@ -115,4 +115,4 @@ returns-in-Err-ack-clause-err g c = λ setup state good shows armed told.
     let B : Cluster (Group g.row.N) → Type 0 = λ world. BreaksAlone (group_kit g.row.N) world c.ack.new.world in
     let new = c.ack.new.world in
     let broken = subst B none.0 c.in-Err-ack.ensures.err held setup state good shows in
-    (broken, (group_laws g.row.N).lacks_same setup state new.history.entries new.servers held ((broken-ends (group_kit g.row.N) (group_laws g.row.N)) setup state held held new broken))
+    (broken, (group_laws g.row.N).lacks_same false setup state new.history.entries new.servers held ((broken-ends (group_kit g.row.N) (group_laws g.row.N)) setup state held held new broken))

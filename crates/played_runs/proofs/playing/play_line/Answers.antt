@@ -19,7 +19,7 @@ returns-in-Ok g c setup state good shows armed tells =
     let world = c.event.new.arg4 in
     let next = c.args.line.now in
     let E = (LineEnds g.W.Playable.game) setup state next held left world in
-    let L = (LineLacks g.W.Playable.game) setup state held left world in
+    let L = (LineLacks g.W.Playable.game) setup state next held left world in
     let sink = edge g.K.Sink.written g.K.Sink.faults c.args.out.now c.write_lines.new.out in
     let lines = c.as_slice.result.now in
     let happened = c.requires.event.does _ _ _ _ _ _ c.in-Ok.ensures in
@@ -30,7 +30,7 @@ pub returns-in-Err-Memory : goal.returns-in-Err-Memory
 returns-in-Err-Memory g c setup state good shows armed tells =
     let happened = c.requires.event.does _ _ _ _ _ _ (rw c.in-Err-Memory.field-0-is at c.in-Err-Memory.ensures) in
     let disk : ℕ × ℕ = ((g.D.SharedDisk.seen c.args.disk.now).faults, (g.D.SharedDisk.seen c.event.new.arg3).faults) in
-    let L = (LineLacks g.W.Playable.game) setup state (g.D.SharedDisk.seen c.args.disk.now) (g.D.SharedDisk.seen c.event.new.arg3) c.event.new.arg4 in
+    let L = (LineLacks g.W.Playable.game) setup state c.args.line.now (g.D.SharedDisk.seen c.args.disk.now) (g.D.SharedDisk.seen c.event.new.arg3) c.event.new.arg4 in
     let broken = happened.broken setup state good shows armed in
     lacked _ (Standing unasked disk L) _ ((refl, broken.0, broken.1), refl, happened.cause) refl
 
@@ -40,7 +40,7 @@ returns g c setup state good shows armed tells =
     let left = g.D.SharedDisk.seen c.event.new.arg3 in
     let disk : ℕ × ℕ = (held.faults, left.faults) in
     let E = (LineEnds g.W.Playable.game) setup state c.args.line.now held left c.event.new.arg4 in
-    let L = (LineLacks g.W.Playable.game) setup state held left c.event.new.arg4 in
+    let L = (LineLacks g.W.Playable.game) setup state c.args.line.now held left c.event.new.arg4 in
     let sink = edge g.K.Sink.written g.K.Sink.faults c.args.out.now c.write_broken.new.out in
     let happened = c.requires.event.does _ _ _ _ _ _ (rw c.in-Err-DiskFault.field-0-is at c.in-Err-DiskFault.ensures) in
     let lines = c.as_slice-in-Err-DiskFault.result.now in
