@@ -12,8 +12,8 @@ use Rattle.played_runs.specs.Edges.{IsUntouched}
 use Rattle.played_runs.specs.declared.ending.Status8.{Status8}
 use Rattle.played_runs.specs.declared.ending.Status8.TheVariants.{Done, ScriptRefused, Usage, Memory, ReadFault, WriteFault, DiskFault, RootNotEmpty, TooLong, Inseparable}
 use Rattle.cluster_core.specs.Runs.{PlayLacks, PlayedTo}
-use Rattle.load_runs.specs.Loading.{CountedBehind, counting_faults}
-use Rattle.load_runs.specs.LoadSteps.{LoadEnds, LoadWants}
+use Rattle.load_runs.specs.Loading.{counting_faults}
+use Rattle.world_runs.specs.Loads.{CountedBehind, LoadEnds, LoadWants}
 use Rattle.aisrun.specs.Edges.{Around}
 use Rattle.aisrun.specs.Endings.{Ends, HasLoad, InLoad, LacksBy, Loaded, LoadLacks, Uncounted, Unended, Unmade}
 

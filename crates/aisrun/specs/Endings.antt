@@ -27,7 +27,8 @@ use Rattle.cluster_core.specs.Runs.{DiskFails, PlayEnds, PlayLacks, PlayedTo}
 use Rattle.commands.specs.declared.command.Command.{Command}
 use Rattle.commands.specs.declared.command.Command.TheVariants.{Run, Check, Expr, Gen, Load, Scan}
 use Rattle.commands.specs.Commands.{command_of, text_of as word_text}
-use Rattle.load_runs.specs.Loading.{CountedBehind, LoadFails, TellsLoad, counting_faults}
+use Rattle.load_runs.specs.Loading.{counting_faults}
+use Rattle.world_runs.specs.Loads.{CountedBehind, LoadFails, TellsLoad}
 use Rattle.aisrun.specs.Scanning.{CanScan, CannotScan, ScansAll, ScansFront, TakesText}
 use Rattle.aisrun.specs.Usage.{usage_line}
 

@@ -31,7 +31,6 @@ use cluster_core::World;
 use commands::{Command, command_of, text_of, wanted_of};
 use disk_model::SharedDisk;
 use io_edge::{Sink, Source, read_all};
-use load_runs::load;
 use played_runs::{Status8, write_end, write_text};
 use script::{ScriptAnswer, ScriptWhy, parse_script};
 use std::alloc::Global;

@@ -1,4 +1,3 @@
-mod FigureLaws
 mod LoadEndings
 mod LoadLines
 mod TurnSteps

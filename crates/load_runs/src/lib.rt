@@ -1,7 +1,6 @@
-//! A large run of the world of two servers: its script is made and played turn by turn, and one line tells where it led.
+//! A large run: its script is made and played turn by turn, over any world, and one line tells where it led.
 #![tactic(auto)]
 
-mod figures;
 mod loading;
 
-pub use loading::load;
+pub use loading::play_load;

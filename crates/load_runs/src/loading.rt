@@ -1,56 +1,52 @@
-//! The command `load`: the script of a large run is made turn by turn and played, and one line tells where it led.
+//! The script of a large run is made turn by turn and played, and one line tells where it led.
 ghost use Rattle.std.specs.Prelude.{◌≡◌, ◌<◌, ◌++◌, ℕ, Option, None};
 ghost use Rattle.disk_model.specs.Disk.{Files};
 ghost use Rattle.plain_service.specs.Setups.{Setup};
-ghost use Rattle.cluster_events.specs.Servers.{State};
 ghost use Rattle.script_language.specs.Scripts.{IsScriptOf};
 ghost use Rattle.load_script.specs.Texts.{load_text};
 ghost use Rattle.load_lines.specs.Lines.{closing_lines, first_lines, load_lines, opening_line, turn_lines, turns_lines};
-ghost use Rattle.group_cluster.specs.Seats.{Peers};
 ghost use Rattle.played_runs.specs.Edges.{edge, stage};
 ghost use Rattle.played_runs.specs.Ends.{StoodUpTo};
-ghost use Rattle.played_runs.specs.Handed.{BeginsBy, CanDo, CanOpen, DoesLines, Opened};
-ghost use Rattle.played_runs.specs.Passing.{RisesPassing};
+ghost use Rattle.played_runs.specs.Games.{Begun};
+ghost use Rattle.played_runs.specs.Handed.{BeginsBy, DoesLines, Opened};
+ghost use Rattle.played_runs.specs.Passing.{HasGone, Passes, RisesPassing};
+ghost use Rattle.played_runs.specs.Steps.{HasBegun};
 ghost use Rattle.played_runs.specs.Views.{HoldsNone, counters_of, names_told};
 ghost use Rattle.played_runs.specs.Writing.{Ended, Written, unasked};
-ghost use Rattle.cluster_core.specs.Game.{world_game};
-ghost use Rattle.cluster_core.specs.Runs.{Begun, HasBegun, HasGone, Passes};
-ghost use Rattle.cluster_core.specs.Worlds.{empty_world, Shows};
-ghost use Rattle.load_runs.specs.LoadSteps.{LoadedOn, RunEnds, RunWants, TellEnds, TellLacks};
+ghost use Rattle.load_runs.specs.Handed.{CanTell, PlaysLoads, TellsStates};
+ghost use Rattle.load_runs.specs.Loading.{LineOf};
+ghost use Rattle.load_runs.specs.LoadSteps.{LoadedOn, RunEnds, RunWants, TellsEnd};
 
-use crate::figures::tell_load;
 use ais_values::Seq;
-use callback_dispatch::Gate;
 use cluster_clients::EventAnswer;
-use cluster_core::World;
 use disk_model::{DiskAnswer, SharedDisk};
 use io_edge::Sink;
 use load_lines::{closing_lines, first_lines, law_of_loads, opening_line, turn_lines};
 use load_script::{first_state, next_state, number_in};
 use played_runs::{
-    Halt, Status8, begin_by, first_name, pass_lines, write_broken, write_held, write_text,
+    Halt, Playable, Status8, begin_by, first_name, pass_lines, write_broken, write_held, write_text,
 };
 use script_lines::Line;
 use std::alloc::Global;
 use std::mem;
-use std::sync::Wait;
-use std::thread::Threads;
 
 // Plays a turn.
-fn pass_turn<D: SharedDisk, E>(
+fn pass_turn<W, D: SharedDisk, E>(
     alloc: Global,
     turn: u32,
     number: u32,
     disk: &mut D,
-    world: &mut World,
+    world: &mut W,
     event: &E,
 ) -> Result<(), Halt>
 where
-    E: Fn(&Line, &mut D, &mut World) -> Result<Seq<Seq<u8>>, EventAnswer>,
-    requires gone { HasGone (D.seen disk.old) world.old }
+    W: Playable<Line>,
+    E: Fn(&Line, &mut D, &mut W) -> Result<Seq<Seq<u8>>, EventAnswer>,
+    requires lines { PlaysLoads W.game }
+    requires gone { HasGone W.game (D.seen disk.old) world.old }
     requires small { number < 65536 }
-    requires event { DoesLines world_game D.seen E.Fn event.now }
-    ensures passes { Passes (StoodUpTo D.seen) (turn_lines turn number)
+    requires event { DoesLines W.game D.seen E.Fn event.now }
+    ensures passes { Passes W.game (StoodUpTo D.seen) (turn_lines turn number)
         (D.seen disk.old) (D.seen disk.new) world.old world.new result }
     ensures counts { RisesPassing ((D.seen disk.old).faults, (D.seen disk.new).faults) result }
 {
@@ -61,19 +57,21 @@ where
 }
 
 // Plays all turns.
-fn pass_turns<D: SharedDisk, E>(
+fn pass_turns<W, D: SharedDisk, E>(
     alloc: Global,
     count: u32,
     seed: u64,
     disk: &mut D,
-    world: &mut World,
+    world: &mut W,
     event: &E,
 ) -> Result<(), Halt>
 where
-    E: Fn(&Line, &mut D, &mut World) -> Result<Seq<Seq<u8>>, EventAnswer>,
-    requires gone { HasGone (D.seen disk.old) world.old }
-    requires event { DoesLines world_game D.seen E.Fn event.now }
-    ensures passes { Passes (StoodUpTo D.seen) (turns_lines seed count)
+    W: Playable<Line>,
+    E: Fn(&Line, &mut D, &mut W) -> Result<Seq<Seq<u8>>, EventAnswer>,
+    requires lines { PlaysLoads W.game }
+    requires gone { HasGone W.game (D.seen disk.old) world.old }
+    requires event { DoesLines W.game D.seen E.Fn event.now }
+    ensures passes { Passes W.game (StoodUpTo D.seen) (turns_lines seed count)
         (D.seen disk.old) (D.seen disk.new) world.old world.new result }
     ensures counts { RisesPassing ((D.seen disk.old).faults, (D.seen disk.new).faults) result }
 {
@@ -89,17 +87,19 @@ where
 }
 
 // Plays the lines before the first turn.
-fn pass_first<D: SharedDisk, E>(
+fn pass_first<W, D: SharedDisk, E>(
     alloc: Global,
     disk: &mut D,
-    world: &mut World,
+    world: &mut W,
     event: &E,
 ) -> Result<(), Halt>
 where
-    E: Fn(&Line, &mut D, &mut World) -> Result<Seq<Seq<u8>>, EventAnswer>,
-    requires gone { HasGone (D.seen disk.old) world.old }
-    requires event { DoesLines world_game D.seen E.Fn event.now }
-    ensures passes { Passes (StoodUpTo D.seen) first_lines
+    W: Playable<Line>,
+    E: Fn(&Line, &mut D, &mut W) -> Result<Seq<Seq<u8>>, EventAnswer>,
+    requires lines { PlaysLoads W.game }
+    requires gone { HasGone W.game (D.seen disk.old) world.old }
+    requires event { DoesLines W.game D.seen E.Fn event.now }
+    ensures passes { Passes W.game (StoodUpTo D.seen) first_lines
         (D.seen disk.old) (D.seen disk.new) world.old world.new result }
     ensures counts { RisesPassing ((D.seen disk.old).faults, (D.seen disk.new).faults) result }
 {
@@ -110,17 +110,19 @@ where
 }
 
 // Plays the lines behind the last turn.
-fn pass_closing<D: SharedDisk, E>(
+fn pass_closing<W, D: SharedDisk, E>(
     alloc: Global,
     disk: &mut D,
-    world: &mut World,
+    world: &mut W,
     event: &E,
 ) -> Result<(), Halt>
 where
-    E: Fn(&Line, &mut D, &mut World) -> Result<Seq<Seq<u8>>, EventAnswer>,
-    requires gone { HasGone (D.seen disk.old) world.old }
-    requires event { DoesLines world_game D.seen E.Fn event.now }
-    ensures passes { Passes (StoodUpTo D.seen) closing_lines
+    W: Playable<Line>,
+    E: Fn(&Line, &mut D, &mut W) -> Result<Seq<Seq<u8>>, EventAnswer>,
+    requires lines { PlaysLoads W.game }
+    requires gone { HasGone W.game (D.seen disk.old) world.old }
+    requires event { DoesLines W.game D.seen E.Fn event.now }
+    ensures passes { Passes W.game (StoodUpTo D.seen) closing_lines
         (D.seen disk.old) (D.seen disk.new) world.old world.new result }
     ensures counts { RisesPassing ((D.seen disk.old).faults, (D.seen disk.new).faults) result }
 {
@@ -131,19 +133,21 @@ where
 }
 
 // Plays the lines up to the last turn.
-fn pass_front<D: SharedDisk, E>(
+fn pass_front<W, D: SharedDisk, E>(
     alloc: Global,
     count: u32,
     seed: u64,
     disk: &mut D,
-    world: &mut World,
+    world: &mut W,
     event: &E,
 ) -> Result<(), Halt>
 where
-    E: Fn(&Line, &mut D, &mut World) -> Result<Seq<Seq<u8>>, EventAnswer>,
-    requires gone { HasGone (D.seen disk.old) world.old }
-    requires event { DoesLines world_game D.seen E.Fn event.now }
-    ensures passes { Passes (StoodUpTo D.seen) (first_lines ++ turns_lines seed count)
+    W: Playable<Line>,
+    E: Fn(&Line, &mut D, &mut W) -> Result<Seq<Seq<u8>>, EventAnswer>,
+    requires lines { PlaysLoads W.game }
+    requires gone { HasGone W.game (D.seen disk.old) world.old }
+    requires event { DoesLines W.game D.seen E.Fn event.now }
+    ensures passes { Passes W.game (StoodUpTo D.seen) (first_lines ++ turns_lines seed count)
         (D.seen disk.old) (D.seen disk.new) world.old world.new result }
     ensures counts { RisesPassing ((D.seen disk.old).faults, (D.seen disk.new).faults) result }
 {
@@ -154,19 +158,21 @@ where
 }
 
 // Plays all lines behind the cluster line.
-fn pass_events<D: SharedDisk, E>(
+fn pass_events<W, D: SharedDisk, E>(
     alloc: Global,
     count: u32,
     seed: u64,
     disk: &mut D,
-    world: &mut World,
+    world: &mut W,
     event: &E,
 ) -> Result<(), Halt>
 where
-    E: Fn(&Line, &mut D, &mut World) -> Result<Seq<Seq<u8>>, EventAnswer>,
-    requires gone { HasGone (D.seen disk.old) world.old }
-    requires event { DoesLines world_game D.seen E.Fn event.now }
-    ensures passes { Passes (StoodUpTo D.seen)
+    W: Playable<Line>,
+    E: Fn(&Line, &mut D, &mut W) -> Result<Seq<Seq<u8>>, EventAnswer>,
+    requires lines { PlaysLoads W.game }
+    requires gone { HasGone W.game (D.seen disk.old) world.old }
+    requires event { DoesLines W.game D.seen E.Fn event.now }
+    ensures passes { Passes W.game (StoodUpTo D.seen)
         (first_lines ++ turns_lines seed count ++ closing_lines)
         (D.seen disk.old) (D.seen disk.new) world.old world.new result }
     ensures counts { RisesPassing ((D.seen disk.old).faults, (D.seen disk.new).faults) result }
@@ -178,13 +184,16 @@ where
 }
 
 // Writes the line that tells where the run led.
-fn tell<K: Sink, D: SharedDisk>(alloc: Global, out: &mut K, disk: &mut D, world: &World) -> Status8
-    ensures { (setup : Setup) (state : State Peers) → Shows setup state world.entry.now
-        → Written (TellEnds (D.seen disk.old) (D.seen disk.new) state)
-        (TellLacks (D.seen disk.old) (D.seen disk.new))
+fn tell_end<W, K: Sink, D: SharedDisk, T>(out: &mut K, disk: &mut D, world: &W, tell: &T) -> Status8
+where
+    W: Playable<Line>,
+    T: Fn(&mut D, &W) -> Result<String, Halt>,
+    requires tell { CanTell T.Fn tell.now }
+    ensures { (line_of : LineOf W.game) → TellsStates W.game D.seen line_of T.Fn tell.now
+        → TellsEnd W.game line_of (D.seen disk.old) (D.seen disk.new) world.now
         (edge K.written K.faults out.old out.new) result }
 {
-    match tell_load(alloc, disk, world) {
+    match tell(disk, world) {
         Ok(line) => write_text(out, Status8::Done, line.as_bytes()),
         Err(Halt::Memory) => Status8::Memory,
         Err(Halt::DiskFault) => write_broken(out, &[]),
@@ -192,76 +201,90 @@ fn tell<K: Sink, D: SharedDisk>(alloc: Global, out: &mut K, disk: &mut D, world:
 }
 
 // Plays all lines behind the cluster line, and tells where they led.
-fn run_events<K: Sink, D: SharedDisk, E>(
+fn run_events<W, K: Sink, D: SharedDisk, E, T>(
     alloc: Global,
     count: u32,
     seed: u64,
     out: &mut K,
     disk: &mut D,
-    world: &mut World,
+    world: &mut W,
     event: &E,
+    tell: &T,
 ) -> Status8
 where
-    E: Fn(&Line, &mut D, &mut World) -> Result<Seq<Seq<u8>>, EventAnswer>,
-    requires begun { HasBegun (D.seen disk.old) world.old }
-    requires event { DoesLines world_game D.seen E.Fn event.now }
-    ensures { (setup : Setup) (places : ℕ) (held : Option Files)
-        → Begun setup places held (D.seen disk.old) world.old
+    W: Playable<Line>,
+    E: Fn(&Line, &mut D, &mut W) -> Result<Seq<Seq<u8>>, EventAnswer>,
+    T: Fn(&mut D, &W) -> Result<String, Halt>,
+    requires lines { PlaysLoads W.game }
+    requires begun { HasBegun W.game (D.seen disk.old) world.old }
+    requires event { DoesLines W.game D.seen E.Fn event.now }
+    requires tell { CanTell T.Fn tell.now }
+    ensures { (line_of : LineOf W.game) → TellsStates W.game D.seen line_of T.Fn tell.now
+        → (setup : Setup) (places : ℕ) (held : Option Files)
+        → Begun W.game setup places held (D.seen disk.old) world.old
         → let events = first_lines ++ turns_lines seed count ++ closing_lines
         in let first = counters_of (D.seen disk.old) in let left = D.seen disk.new
         in Ended unasked ((D.seen disk.old).faults, left.faults)
-        (RunEnds setup places held first left (StoodUpTo D.seen) world.new events)
-        (RunWants setup places held first left (StoodUpTo D.seen) world.new events)
+        (RunEnds W.game line_of setup places held first left (StoodUpTo D.seen) world.new events)
+        (RunWants W.game setup places held first left (StoodUpTo D.seen) world.new events)
         (edge K.written K.faults out.old out.new) result }
 {
     match pass_events(alloc, count, seed, disk, world, event) {
-        Ok(()) => tell(alloc, out, disk, world),
+        Ok(()) => tell_end(out, disk, world, tell),
         Err(Halt::Memory) => Status8::Memory,
         Err(Halt::DiskFault) => write_broken(out, &[]),
     }
 }
 
 // Begins the cluster by the first line of the script.
-fn begin_load<D: SharedDisk, B>(
+fn begin_load<W, D: SharedDisk, B>(
     disk: &mut D,
-    world: &mut World,
+    world: &mut W,
     begin: &B,
 ) -> Result<(), EventAnswer>
 where
-    B: Fn(&Line, &mut D, &mut World) -> Result<(), EventAnswer>,
-    requires empty { world.old ≡ empty_world }
+    W: Playable<Line>,
+    B: Fn(&Line, &mut D, &mut W) -> Result<(), EventAnswer>,
+    requires lines { PlaysLoads W.game }
+    requires empty { world.old ≡ W.game.empty }
     requires unarmed { (D.seen disk.old).tally.armed ≡ None }
-    requires begin { BeginsBy world_game D.seen B.Fn begin.now }
-    ensures { Opened world_game D.seen opening_line disk.old disk.new world.old world.new result }
+    requires begin { BeginsBy W.game D.seen B.Fn begin.now }
+    ensures { Opened W.game D.seen opening_line disk.old disk.new world.old world.new result }
 {
     begin_by(opening_line(), disk, world, begin)
 }
 
 // Begins the cluster, and plays the lines behind its line. The stage is that of the disk before its names were asked for.
-fn open_load<K: Sink, D: SharedDisk, B, E>(
+fn open_load<W, K: Sink, D: SharedDisk, B, E, T>(
     alloc: Global,
     count: u32,
     seed: u64,
     out: &mut K,
     disk: &mut D,
-    world: &mut World,
+    world: &mut W,
     begin: &B,
     event: &E,
+    tell: &T,
 ) -> Status8
 where
-    B: Fn(&Line, &mut D, &mut World) -> Result<(), EventAnswer>,
-    E: Fn(&Line, &mut D, &mut World) -> Result<Seq<Seq<u8>>, EventAnswer>,
-    requires empty { world.old ≡ empty_world }
+    W: Playable<Line>,
+    B: Fn(&Line, &mut D, &mut W) -> Result<(), EventAnswer>,
+    E: Fn(&Line, &mut D, &mut W) -> Result<Seq<Seq<u8>>, EventAnswer>,
+    T: Fn(&mut D, &W) -> Result<String, Halt>,
+    requires lines { PlaysLoads W.game }
+    requires empty { world.old ≡ W.game.empty }
     requires bare { HoldsNone (D.seen disk.old).files }
     requires unarmed { (D.seen disk.old).tally.armed ≡ None }
-    requires begin { BeginsBy world_game D.seen B.Fn begin.now }
-    requires event { DoesLines world_game D.seen E.Fn event.now }
-    ensures { (earlier : D) → D.seen disk.old ≡ names_told (D.seen earlier)
-        → LoadedOn (load_lines count seed) (stage (edge K.written K.faults out.old out.new)
+    requires begin { BeginsBy W.game D.seen B.Fn begin.now }
+    requires event { DoesLines W.game D.seen E.Fn event.now }
+    requires tell { CanTell T.Fn tell.now }
+    ensures { (line_of : LineOf W.game) → TellsStates W.game D.seen line_of T.Fn tell.now
+        → (earlier : D) → D.seen disk.old ≡ names_told (D.seen earlier)
+        → LoadedOn W.game line_of (load_lines count seed) (stage (edge K.written K.faults out.old out.new)
         D.seen earlier disk.new world.old world.new) result }
 {
     match begin_load(disk, world, begin) {
-        Ok(()) => run_events(alloc, count, seed, out, disk, world, event),
+        Ok(()) => run_events(alloc, count, seed, out, disk, world, event, tell),
         Err(EventAnswer::Memory) => Status8::Memory,
         Err(EventAnswer::DiskFault { printed }) => {
             mem::drop(printed);
@@ -270,37 +293,42 @@ where
     }
 }
 
-/// Plays the script of so many turns from a seed on, whose lines are made one turn after another and whose events
-/// write nothing, and writes the line that tells where it led.
+/// Plays the script of so many turns from a seed on over a world that plays shared lines, by what begins one, what does a line and
+/// what makes the line that tells where they led. Its lines are made one turn after another, and their events write nothing.
 ///
 /// `RootNotEmpty` comes where the disk holds a file; its least name is written, and disk and world stay. `DiskFault`
 /// comes only where the disk's count of faults rose: where it comes in the playing of the same script, or as the files were
 /// counted behind the last line, where all stands as that line left it. It takes the memory of the world and of one turn.
-pub fn load<R: Threads + Wait + Sync, K: Sink, D: SharedDisk, G: Gate>(
-    rt: &R,
+pub fn play_load<W, K: Sink, D: SharedDisk, B, E, T>(
     alloc: Global,
     count: u32,
     seed: u64,
     out: &mut K,
     disk: &mut D,
-    gate: &G,
-    world: &mut World,
+    world: &mut W,
+    begin: &B,
+    event: &E,
+    tell: &T,
 ) -> Status8
-    requires empty { world.old ≡ empty_world }
+where
+    W: Playable<Line>,
+    B: Fn(&Line, &mut D, &mut W) -> Result<(), EventAnswer>,
+    E: Fn(&Line, &mut D, &mut W) -> Result<Seq<Seq<u8>>, EventAnswer>,
+    T: Fn(&mut D, &W) -> Result<String, Halt>,
+    requires lines { PlaysLoads W.game }
+    requires empty { world.old ≡ W.game.empty }
     requires unarmed { (D.seen disk.old).tally.armed ≡ None }
+    requires begin { BeginsBy W.game D.seen B.Fn begin.now }
+    requires event { DoesLines W.game D.seen E.Fn event.now }
+    requires tell { CanTell T.Fn tell.now }
     ensures script { IsScriptOf (load_lines count seed) (load_text count seed) }
-    ensures ends { LoadedOn (load_lines count seed) (stage (edge K.written K.faults out.old out.new)
+    ensures ends { (line_of : LineOf W.game) → TellsStates W.game D.seen line_of T.Fn tell.now
+        → LoadedOn W.game line_of (load_lines count seed) (stage (edge K.written K.faults out.old out.new)
         D.seen disk.old disk.new world.old world.new) result }
 {
     law_of_loads();
-    let begin = |line: &Line, disk: &mut D, world: &mut World| -> Result<(), EventAnswer>
-        requires { CanOpen world_game D.seen line.now disk.old world.old }
-    { world.begin(rt, alloc, line, disk) };
-    let event = |line: &Line, disk: &mut D, world: &mut World| -> Result<Seq<Seq<u8>>, EventAnswer>
-        requires { CanDo world_game D.seen line.now disk.old world.old }
-    { world.event(rt, alloc, line, disk, gate) };
     match first_name(alloc, disk) {
-        Ok(None) => open_load(alloc, count, seed, out, disk, world, &begin, &event),
+        Ok(None) => open_load(alloc, count, seed, out, disk, world, begin, event, tell),
         Ok(Some(name)) => write_held(alloc, out, name.as_slice()),
         Err(DiskAnswer::Memory) => Status8::Memory,
         // Names are read, so that the disk does not stop.

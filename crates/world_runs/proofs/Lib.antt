@@ -1,1 +1,3 @@
 mod FallLaws
+mod FigureLaws
+mod LoadLaws

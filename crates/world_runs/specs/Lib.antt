@@ -1,2 +1,4 @@
 pub mod Counting
 pub mod Falling
+pub mod Figures
+pub mod Loads

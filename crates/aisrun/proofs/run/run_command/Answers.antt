@@ -12,7 +12,7 @@ use Rattle.commands.specs.declared.command.Command.TheVariants.{Run, Check, Expr
 use Rattle.aisrun.specs.Checking.{CheckEnds, ExprEnds}
 use Rattle.commands.specs.Commands.{command_of, text_of, wanted_of}
 use Rattle.aisrun.specs.Endings.{Ends, LacksBy}
-use Rattle.load_runs.specs.LoadSteps.{LoadEnds, LoadWants}
+use Rattle.world_runs.specs.Loads.{LoadEnds, LoadWants}
 use Rattle.aisrun.specs.RunSteps.{InputEnds, InputLacks, WordsLack}
 use Rattle.aisrun.specs.ScanSteps.{ScanEnds, ScanLacks}
 use Rattle.aisrun.proofs.EndingSteps.{check-run, expr-run, input-lack, input-run, ok-ends}

@@ -1,7 +1,5 @@
 use Rattle.std.proofs.Common.{◌++◌}
 use Rattle.load_lines.specs.Lines.{closing_lines, first_lines, turns_lines}
-use Rattle.cluster_core.specs.Game.{world_game}
-use Rattle.cluster_core.specs.GameLaws.{world_plays}
 use Rattle.played_runs.specs.Ends.{StoodUpTo}
 use Rattle.played_runs.proofs.PassingSteps.{gone-on, passes-halted, passes-then, rises-later}
 use Rattle.load_runs.proofs.loading.pass_events.Goals as goal
@@ -10,14 +8,14 @@ pub pass_closing-requires-clause-gone : goal.pass_closing-requires-clause-gone
 pass_closing-requires-clause-gone g c =
     let start = g.D.SharedDisk.seen c.args.disk.now in
     let mid = g.D.SharedDisk.seen c.pass_front.new.disk in
-    gone-on world_game world_plays (StoodUpTo g.D.SharedDisk.seen) (first_lines ++ turns_lines c.args.seed c.args.count) start mid c.args.world.now c.pass_front.new.world tt c.requires.gone c.in-Ok.ensures.passes
+    gone-on g.W.Playable.game g.W.Playable.plays (StoodUpTo g.D.SharedDisk.seen) (first_lines ++ turns_lines c.args.seed c.args.count) start mid c.args.world.now c.pass_front.new.world tt c.requires.gone c.in-Ok.ensures.passes
 
 pub returns-in-Ok-clause-passes : goal.returns-in-Ok-clause-passes
 returns-in-Ok-clause-passes g c =
     let start = g.D.SharedDisk.seen c.args.disk.now in
     let mid = g.D.SharedDisk.seen c.pass_front.new.disk in
     let left = g.D.SharedDisk.seen c.pass_closing.new.disk in
-    passes-then world_game world_plays (StoodUpTo g.D.SharedDisk.seen) (first_lines ++ turns_lines c.args.seed c.args.count) (closing_lines) start mid left c.args.world.now c.pass_front.new.world c.pass_closing.new.world tt c.pass_closing.result c.in-Ok.ensures.passes c.pass_closing.ensures.passes
+    passes-then g.W.Playable.game g.W.Playable.plays (StoodUpTo g.D.SharedDisk.seen) (first_lines ++ turns_lines c.args.seed c.args.count) (closing_lines) start mid left c.args.world.now c.pass_front.new.world c.pass_closing.new.world tt c.pass_closing.result c.in-Ok.ensures.passes c.pass_closing.ensures.passes
 
 pub returns-in-Ok-clause-counts : goal.returns-in-Ok-clause-counts
 returns-in-Ok-clause-counts g c =
@@ -27,4 +25,4 @@ pub returns-in-Err-clause-passes : goal.returns-in-Err-clause-passes
 returns-in-Err-clause-passes g c =
     let start = g.D.SharedDisk.seen c.args.disk.now in
     let left = g.D.SharedDisk.seen c.pass_front.new.disk in
-    passes-halted world_game world_plays (StoodUpTo g.D.SharedDisk.seen) (first_lines ++ turns_lines c.args.seed c.args.count) (closing_lines) start left c.args.world.now c.pass_front.new.world c.in-Err.halt c.in-Err.ensures.passes
+    passes-halted g.W.Playable.game g.W.Playable.plays (StoodUpTo g.D.SharedDisk.seen) (first_lines ++ turns_lines c.args.seed c.args.count) (closing_lines) start left c.args.world.now c.pass_front.new.world c.in-Err.halt c.in-Err.ensures.passes

@@ -3,12 +3,10 @@ use Rattle.script_lines.specs.declared.line.Line.{Line}
 use Rattle.load_script.specs.Numbers.{next_state, number_in, state_at}
 use Rattle.load_lines.specs.Lines.{turn_lines, turns_lines}
 use Rattle.load_lines.proofs.Whole.{number-low}
-use Rattle.cluster_core.specs.Game.{world_game}
-use Rattle.cluster_core.specs.GameLaws.{world_plays}
 use Rattle.played_runs.specs.Ends.{StoodUpTo}
 use Rattle.played_runs.proofs.CountSteps.{on-behind, on-same}
 use Rattle.played_runs.proofs.PassingSteps.{gone-on, passes-halted, passes-nothing, passes-then, rises-later}
-use Rattle.cluster_core.specs.Runs.{Passes}
+use Rattle.played_runs.specs.Passing.{Passes}
 use Rattle.load_runs.proofs.TurnSteps.{as-turn, turns-more}
 use Rattle.load_runs.proofs.loading.pass_turns.Goals as goal
 
@@ -17,7 +15,7 @@ loop-done-init g c =
     let disk = c.args.disk.now in
     record {
       state = c.first_state-state.ensures;
-      passes = passes-nothing world_game world_plays (StoodUpTo g.D.SharedDisk.seen) (g.D.SharedDisk.seen disk) c.args.world.now tt;
+      passes = passes-nothing g.W.Playable.game g.W.Playable.plays (StoodUpTo g.D.SharedDisk.seen) (g.D.SharedDisk.seen disk) c.args.world.now tt;
       disk = on-same (g.D.SharedDisk.seen disk).faults;
     }
 
@@ -25,7 +23,7 @@ pub pass_turn-requires-clause-gone : goal.pass_turn-requires-clause-gone
 pass_turn-requires-clause-gone g c =
     let start = g.D.SharedDisk.seen c.args.disk.now in
     let mid = g.D.SharedDisk.seen c.loop-done.disk in
-    gone-on world_game world_plays (StoodUpTo g.D.SharedDisk.seen) (turns_lines c.args.seed c.loop-done.done) start mid c.args.world.now c.loop-done.world tt c.requires.gone c.loop-done.invariant.passes
+    gone-on g.W.Playable.game g.W.Playable.plays (StoodUpTo g.D.SharedDisk.seen) (turns_lines c.args.seed c.loop-done.done) start mid c.args.world.now c.loop-done.world tt c.requires.gone c.loop-done.invariant.passes
 
 pub pass_turn-requires-clause-small : goal.pass_turn-requires-clause-small
 pass_turn-requires-clause-small g c =
@@ -44,10 +42,10 @@ returns-in-Err-clause-passes g c =
     let halt = c.in-Err.halt in
     let turn = as-turn seed done (done + 1) c.loop-done.state c.next_state-state.result c.number_in.result (add-one done) c.loop-done.invariant.state c.next_state-state.ensures c.number_in.ensures in
     let lines = turn_lines (done + 1) c.number_in.result in
-    let both = passes-then world_game world_plays (StoodUpTo g.D.SharedDisk.seen) (turns_lines seed done) lines start mid left c.args.world.now c.loop-done.world c.pass_turn.new.world tt (Err halt) c.loop-done.invariant.passes c.in-Err.ensures.passes in
+    let both = passes-then g.W.Playable.game g.W.Playable.plays (StoodUpTo g.D.SharedDisk.seen) (turns_lines seed done) lines start mid left c.args.world.now c.loop-done.world c.pass_turn.new.world tt (Err halt) c.loop-done.invariant.passes c.in-Err.ensures.passes in
     let more = turns-more seed done c.args.count c.loop-done-test.true in
-    let first = subst (λ (all : List Line). Passes Since all start left c.args.world.now c.pass_turn.new.world (Err halt)) (ap (λ (behind : List Line). turns_lines seed done ++ behind) turn) both in
-    subst (λ (all : List Line). Passes Since all start left c.args.world.now c.pass_turn.new.world (Err halt)) (sym more.1) (passes-halted world_game world_plays Since (turns_lines seed (suc done)) more.0 start left c.args.world.now c.pass_turn.new.world halt first)
+    let first = subst (λ (all : List Line). (Passes g.W.Playable.game) Since all start left c.args.world.now c.pass_turn.new.world (Err halt)) (ap (λ (behind : List Line). turns_lines seed done ++ behind) turn) both in
+    subst (λ (all : List Line). (Passes g.W.Playable.game) Since all start left c.args.world.now c.pass_turn.new.world (Err halt)) (sym more.1) (passes-halted g.W.Playable.game g.W.Playable.plays Since (turns_lines seed (suc done)) more.0 start left c.args.world.now c.pass_turn.new.world halt first)
 
 pub loop-done-preserved : goal.loop-done-preserved
 loop-done-preserved g c =
@@ -60,10 +58,10 @@ loop-done-preserved g c =
     let next = add-one done in
     let turn = as-turn seed done (done + 1) c.loop-done.state c.next_state-state.result c.number_in.result next c.loop-done.invariant.state c.next_state-state.ensures c.number_in.ensures in
     let lines = turn_lines (done + 1) c.number_in.result in
-    let both = passes-then world_game world_plays (StoodUpTo g.D.SharedDisk.seen) (turns_lines seed done) lines start mid left c.args.world.now c.loop-done.world c.pass_turn.new.world tt (Ok tt) c.loop-done.invariant.passes c.in-Ok.ensures.passes in
+    let both = passes-then g.W.Playable.game g.W.Playable.plays (StoodUpTo g.D.SharedDisk.seen) (turns_lines seed done) lines start mid left c.args.world.now c.loop-done.world c.pass_turn.new.world tt (Ok tt) c.loop-done.invariant.passes c.in-Ok.ensures.passes in
     record {
       state = rw next (c.next_state-state.ensures ∙ ap next_state c.loop-done.invariant.state);
-      passes = rw next (subst (λ (all : List Line). Passes Since all start left c.args.world.now c.pass_turn.new.world (Ok tt)) (ap (λ (behind : List Line). turns_lines seed done ++ behind) turn) both);
+      passes = rw next (subst (λ (all : List Line). (Passes g.W.Playable.game) Since all start left c.args.world.now c.pass_turn.new.world (Ok tt)) (ap (λ (behind : List Line). turns_lines seed done ++ behind) turn) both);
       disk = on-behind (g.D.SharedDisk.seen c.args.disk.now).faults (g.D.SharedDisk.seen c.loop-done.disk).faults (g.D.SharedDisk.seen c.pass_turn.new.disk).faults c.loop-done.invariant.disk c.in-Ok.ensures.counts;
     }
 
@@ -76,4 +74,4 @@ returns-clause-passes g c =
     let start = g.D.SharedDisk.seen c.args.disk.now in
     let left = g.D.SharedDisk.seen c.loop-done.disk in
     let last : c.loop-done.done ≡ c.args.count = omega arith in
-    subst (λ (turns : ℕ). Passes (StoodUpTo g.D.SharedDisk.seen) (turns_lines c.args.seed turns) start left c.args.world.now c.loop-done.world (Ok tt)) last c.loop-done.invariant.passes
+    subst (λ (turns : ℕ). (Passes g.W.Playable.game) (StoodUpTo g.D.SharedDisk.seen) (turns_lines c.args.seed turns) start left c.args.world.now c.loop-done.world (Ok tt)) last c.loop-done.invariant.passes
