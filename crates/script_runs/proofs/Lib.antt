@@ -1,0 +1,2 @@
+pub mod ReadingSteps
+mod ScriptSteps

@@ -1,0 +1,4 @@
+pub mod Handed
+pub mod Inputs
+pub mod Reading
+pub mod Scripting
