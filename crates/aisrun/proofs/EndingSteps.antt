@@ -19,62 +19,15 @@ use Rattle.played_runs.proofs.CountSteps.{on-same, other-stood, stood-on, untouc
 use Rattle.played_runs.proofs.WritingSteps.{written-as}
 use Rattle.played_runs.proofs.EndingSteps.{text-ends}
 use Rattle.aisrun.specs.Edges.{Around}
-use Rattle.cluster_core.specs.Runs.{Stage, PlayEnds}
+use Rattle.cluster_core.specs.Game.{world_game}
 use Rattle.commands.specs.declared.command.Command.{Command}
 use Rattle.commands.specs.declared.command.Command.TheVariants.{Run, Check, Expr, Gen, Load, Scan}
 use Rattle.commands.specs.Commands.{command_of, text_of}
 use Rattle.aisrun.specs.Checking.{CheckEnds, Judged, IsScript, IsNoScript, ExprEnds, IsExpression, IsNoExpression}
 use Rattle.aisrun.specs.Endings.{input_limit, ReadsWhole, SourceFailed, InputTooLong, HasScript, InScript, LacksBy, Unbegun, Unjudged, RunLacks, Unread as Unknown, Unplayed, Ends, Checked, Parsed, Ran, NoScript, NoExpression}
-use Rattle.aisrun.specs.Inputs.{UnreadEnds, UnreadLacks}
 use Rattle.aisrun.specs.RunSteps.{InputEnds, InputLacks}
-use Rattle.aisrun.specs.Scripting.{BytesEnd, BytesLack}
+use Rattle.script_runs.specs.Scripting.{BytesLack}
 use Rattle.aisrun.specs.Usage.{usage_line}
-
--- Bytes, input and words.
-
-pub play-bytes : {K D : Type 0} (scene : Stage K D) (bytes : List ℕ) (lines : List Line) → IsScriptOf lines bytes → (reached : Option Status8) (text : List ℕ) → PlayEnds lines scene reached text → BytesEnd bytes scene reached text
-play-bytes scene bytes lines script None text ends = (lines, script, ends)
-play-bytes scene bytes lines script (Some Done) text ends = (lines, script, ends)
-play-bytes scene bytes lines script (Some DiskFault) text ends = (lines, script, ends)
-play-bytes scene bytes lines script (Some RootNotEmpty) text ends = (lines, script, ends)
-play-bytes scene bytes lines script (Some ScriptRefused) text ends = absurd ends
-play-bytes scene bytes lines script (Some Usage) text ends = absurd ends
-play-bytes scene bytes lines script (Some Memory) text ends = absurd ends
-play-bytes scene bytes lines script (Some ReadFault) text ends = absurd ends
-play-bytes scene bytes lines script (Some WriteFault) text ends = absurd ends
-play-bytes scene bytes lines script (Some TooLong) text ends = absurd ends
-play-bytes scene bytes lines script (Some Inseparable) text ends = absurd ends
-
-pub bytes-input : {S K D : Type 0} (source : Edge S (List ℕ)) (scene : Stage K D) (bytes : List ℕ) → ReadsWhole source bytes → (reached : Option Status8) (text : List ℕ) → BytesEnd bytes scene reached text → InputEnds source scene reached text
-bytes-input source scene bytes read None text ends = (bytes, read, ends)
-bytes-input source scene bytes read (Some Done) text ends = (bytes, read, ends)
-bytes-input source scene bytes read (Some DiskFault) text ends = (bytes, read, ends)
-bytes-input source scene bytes read (Some RootNotEmpty) text ends = (bytes, read, ends)
-bytes-input source scene bytes read (Some ScriptRefused) text ends = (bytes, read, ends)
-bytes-input source scene bytes read (Some Usage) text ends = absurd ends.2
-bytes-input source scene bytes read (Some Memory) text ends = absurd ends.2
-bytes-input source scene bytes read (Some ReadFault) text ends = absurd ends.2
-bytes-input source scene bytes read (Some WriteFault) text ends = absurd ends.2
-bytes-input source scene bytes read (Some TooLong) text ends = absurd ends.2
-bytes-input source scene bytes read (Some Inseparable) text ends = absurd ends.2
-
--- the source was not read to its end
-pub unread-written : {S K : Type 0} (source : Edge S (List ℕ)) (disk : ℕ × ℕ) (E : Reaching) (L : List ℕ → Type 0) (answer : ReadAnswer) (sink : Edge K (List ℕ)) (status : Status8) → HasStood disk → ReadsAll (before source) (after source) input_limit (Err answer) → RoseExactlyOn {T = Vec ℕ Global} (source.faults source.old) (source.faults source.new) (Err answer) read.ReadFault → ((text : List ℕ) → SourceFailed source text → E (Some ReadFault) text) → ((text : List ℕ) → InputTooLong source text → E (Some TooLong) text) → L [] → Written (UnreadEnds answer) (UnreadLacks answer) sink status → Ended (fault_count source) disk E L sink status
-unread-written source disk E L read.Memory sink status still reads cause failed long lacks written =
-    let stood = other-stood (source.faults source.old) (source.faults source.new) read.Memory read.ReadFault read.Memory cause refl (λ is. cc) in
-    let S : List ℕ → Type 0 = Standing (fault_count source) disk L in
-    written-as (UnreadEnds read.Memory) (Counting (fault_count source) disk E) (UnreadLacks read.Memory) S sink status (λ reached text never. absurd never) (λ text none. subst S (sym none.1) (lacks, stood, stood-on disk still)) written
-unread-written source disk E L read.ReadFault sink status still reads cause failed long lacks written =
-    let C = Counting (fault_count source) disk E in
-    let text = codes "read fault\n" in
-    let ends : C (Some ReadFault) text = (failed text (record { taken = reads; printed = refl }), ((cause.later, cause.rose refl), still)) in
-    written-as (UnreadEnds read.ReadFault) C (UnreadLacks read.ReadFault) (Standing (fault_count source) disk L) sink status (text-ends C ReadFault text ends) (λ text none. let no : read.ReadFault ≡ read.Memory = none.0 in absurd cc) written
-unread-written source disk E L read.TooLong sink status still reads cause failed long lacks written =
-    let C = Counting (fault_count source) disk E in
-    let text = codes "script too long\n" in
-    let stood = other-stood (source.faults source.old) (source.faults source.new) read.TooLong read.ReadFault read.TooLong cause refl (λ is. cc) in
-    let ends : C (Some TooLong) text = (long text (record { taken = reads; printed = refl }), (stood, still)) in
-    written-as (UnreadEnds read.TooLong) C (UnreadLacks read.TooLong) (Standing (fault_count source) disk L) sink status (text-ends C TooLong text ends) (λ text none. let no : read.TooLong ≡ read.Memory = none.0 in absurd cc) written
 
 -- a script that was judged
 pub judged-check : {S : Type 0} (source : Edge S (List ℕ)) (bytes : List ℕ) → ReadsWhole source bytes → HasStood (fault_count source) → (status : Status8) (text : List ℕ) → Judged bytes status text → Counting (fault_count source) unasked (CheckEnds source) (Some status) text
@@ -105,7 +58,7 @@ module _ {S K D : Type 0} (run : Around S K D) where
   input-run asked (Some WriteFault) text ends = absurd ends.2.2
   input-run asked (Some Inseparable) text ends = absurd ends.2.2
 
-  bytes-lacks : command_of run.words ≡ Some Run → (text bytes : List ℕ) → ReadsWhole run.source bytes → BytesLack bytes run.stage text → RunLacks run text
+  bytes-lacks : command_of run.words ≡ Some Run → (text bytes : List ℕ) → ReadsWhole run.source bytes → (BytesLack world_game) bytes run.stage text → RunLacks run text
   bytes-lacks asked text bytes read (inl early) = Unknown early.0 early.1
   bytes-lacks asked text bytes read (inr later) = Unplayed later.0 (has-script asked bytes read later.0 later.1) later.2
 

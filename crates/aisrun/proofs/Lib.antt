@@ -1,4 +1,3 @@
-mod ScriptSteps
 mod EndingSteps
 mod LoadEndings
 mod ScanEndings

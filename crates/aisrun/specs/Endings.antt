@@ -12,9 +12,7 @@ use Rattle.format_expr.specs.Language.{ArePiecesOf}
 use Rattle.format_expr.specs.Faults.{IsFault, word_of}
 use Rattle.script_lines.specs.declared.line.Line.{Line}
 use Rattle.script_lines.specs.declared.line.Line.TheVariants as line
-use Rattle.script_lines.specs.declared.answer.ScriptWhy.{ScriptWhy}
-use Rattle.script_lines.specs.Refusals.{why_word}
-use Rattle.script_language.specs.Scripts.{IsScriptOf, IsBadAt}
+use Rattle.script_language.specs.Scripts.{IsScriptOf}
 use Rattle.load_script.specs.Texts.{load_text}
 use Rattle.played_runs.specs.declared.ending.Status8.{Status8}
 use Rattle.played_runs.specs.declared.ending.Status8.TheVariants.{Done, ScriptRefused, Usage, Memory, ReadFault, WriteFault, DiskFault}
@@ -29,46 +27,15 @@ use Rattle.commands.specs.declared.command.Command.TheVariants.{Run, Check, Expr
 use Rattle.commands.specs.Commands.{command_of, text_of as word_text}
 use Rattle.load_runs.specs.Loading.{counting_faults}
 use Rattle.world_runs.specs.Loads.{CountedBehind, LoadFails, TellsLoad}
+pub use Rattle.script_runs.specs.Reading.{input_limit, InputTooLong, ReadsScript, ReadsWhole, ScriptFails, SourceFailed}
 use Rattle.aisrun.specs.Scanning.{CanScan, CannotScan, ScansAll, ScansFront, TakesText}
 use Rattle.aisrun.specs.Usage.{usage_line}
-
--- the most bytes of an input: 16 MiB
-unfoldable pub input_limit : ℕ
-input_limit = 16777216
-
--- the source was read to its end, and gave these bytes
-abbrev pub ReadsWhole : {S : Type 0} → Edge S (List ℕ) → List ℕ → Type 0
-ReadsWhole source bytes = TakesAll (before source) (after source) input_limit bytes
-
--- the source was read to its end, and its bytes are the script of these lines
-pub record ReadsScript {S : Type 0} (source : Edge S (List ℕ)) (lines : List Line) : Type 0 where
-  pub bytes : List ℕ
-  pub read : ReadsWhole source bytes
-  pub script : IsScriptOf lines bytes
-
--- the source failed before its end was read
-pub record SourceFailed {S : Type 0} (source : Edge S (List ℕ)) (text : List ℕ) : Type 0 where
-  pub taken : TakesSome (before source) (after source) (λ count. count ≤ input_limit)
-  pub printed : text ≡ codes "read fault\n"
-
--- one byte more than the limit was taken
-pub record InputTooLong {S : Type 0} (source : Edge S (List ℕ)) (text : List ℕ) : Type 0 where
-  pub taken : TakesSome (before source) (after source) (λ count. count ≡ input_limit + 1)
-  pub printed : text ≡ codes "script too long\n"
 
 -- the lines of a script are counted: all but blank lines and comments
 pub record ScriptPasses (bytes text : List ℕ) : Type 0 where
   pub lines : List Line
   pub script : IsScriptOf lines bytes
   pub printed : text ≡ codes "ok " ++ (decimal (length lines) ++ codes "\n")
-
--- the least bad line is told, with its first reason
-pub record ScriptFails (bytes text : List ℕ) : Type 0 where
-  pub number : ℕ
-  pub reason : ScriptWhy
-  pub bad : IsBadAt bytes number reason
-  pub none : (lines : List Line) → IsScriptOf lines bytes → ⊥
-  pub printed : text ≡ codes "script line " ++ (decimal number ++ (codes ": " ++ (why_word reason ++ codes "\n")))
 
 -- the text is an expression: its pieces are counted, and it has no fault
 pub record TextPasses (kind : StreamKind) (text printed : List ℕ) : Type 0 where

@@ -2,11 +2,9 @@ pub mod Checking
 pub mod Completing
 pub mod Edges
 pub mod Endings
-pub mod Inputs
 pub mod RunSteps
 pub mod ScanSteps
 pub mod Scanning
-pub mod Scripting
 pub mod Usage
 pub use Rattle.io_edge.specs.Causes
 pub use Rattle.io_edge.specs.Reads

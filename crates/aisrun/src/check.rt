@@ -4,11 +4,11 @@ ghost use Rattle.played_runs.specs.Edges.{edge, fault_count};
 ghost use Rattle.played_runs.specs.Writing.{Ended, IsNone, unasked};
 ghost use Rattle.aisrun.specs.Checking.{CheckEnds, Judged};
 
-use crate::ending::{bad_line, passed};
-use crate::input::{INPUT_LIMIT, write_unread};
+use crate::ending::passed;
 use io_edge::{Sink, Source, read_all};
 use played_runs::{End, Status8, write_end};
 use script::{ScriptAnswer, count_lines};
+use script_runs::{INPUT_LIMIT, bad_line, write_unread};
 use std::alloc::{AllocError, Global};
 
 // How the bytes of an input are judged.

@@ -3,11 +3,9 @@ ghost use Rattle.std.specs.Prelude.{◌≡◌, ◌++◌, codes, string_bytes, If
 ghost use Rattle.std.specs.Fmt.{decimal};
 ghost use Rattle.aisrun.specs.Usage.{usage_line};
 ghost use Rattle.format_expr.specs.Faults.{word_of};
-ghost use Rattle.script_lines.specs.Refusals.{why_word};
 
 use format_expr::ExprFault;
 use played_runs::{End, Status8, end_with};
-use script::ScriptWhy;
 use std::alloc::{AllocError, Global};
 
 /// What is printed where the words are none of the program's.
@@ -21,16 +19,6 @@ pub fn usage(alloc: Global) -> Result<End, AllocError>
     ensures text { IfOk result (λ end. end.text.items ≡ usage_line) }
 {
     end_with(alloc, Status8::Usage, USAGE)
-}
-
-/// The end where a line of the input is bad.
-pub fn bad_line(alloc: Global, line: u32, why: ScriptWhy) -> Result<End, AllocError>
-    ensures status { IfOk result (λ end. end.status ≡ Status8.ScriptRefused) }
-    ensures text { IfOk result (λ end. end.text.items ≡ codes "script line "
-        ++ (decimal line ++ (codes ": " ++ (why_word why ++ codes "\n")))) }
-{
-    let printed = format!(in alloc; "script line {line}: {why}\n")?;
-    end_with(alloc, Status8::ScriptRefused, printed.as_bytes())
 }
 
 /// The end where a text has a fault.

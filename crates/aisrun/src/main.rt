@@ -7,7 +7,6 @@ mod check;
 mod ending;
 mod expr;
 mod generating;
-mod input;
 mod run;
 mod scanning;
 

@@ -1,13 +1,11 @@
 //! The top call: the words, a source, a sink, a disk and a world, and the status that the run ends with.
-ghost use Rattle.std.specs.Prelude.{◌≡◌, ◌≤◌, ◌++◌, None, Some, codes, length};
-ghost use Rattle.std.specs.Fmt.{decimal};
-ghost use Rattle.script_lines.specs.Refusals.{why_word};
+ghost use Rattle.std.specs.Prelude.{◌≡◌, None, Some};
 ghost use Rattle.played_runs.specs.Counts.{HasRisen, NoneRises, RisesBy};
-ghost use Rattle.played_runs.specs.Edges.{edge, fault_count, stage};
+ghost use Rattle.played_runs.specs.Edges.{edge, fault_count};
 ghost use Rattle.played_runs.specs.Promises.{CallsBack, CommitsInTime, KeepsFiles, KeepsOneHistory, KeepsRecords};
 ghost use Rattle.played_runs.specs.Promises.{PrintsPosts, ReadsRightly, RepliesRightly, StandsOnce};
 ghost use Rattle.played_runs.specs.Telling.{TellsOnce};
-ghost use Rattle.played_runs.specs.Writing.{Ended, IsNone, IsText, Written, unasked};
+ghost use Rattle.played_runs.specs.Writing.{Ended};
 ghost use Rattle.aisrun.specs.Edges.{around};
 ghost use Rattle.world_runs.specs.Counting.{CallsCounted};
 ghost use Rattle.world_runs.specs.Falling.{FallsByCause, FaultsFell};
@@ -16,88 +14,24 @@ ghost use Rattle.commands.specs.Commands.{command_of, word_bytes};
 ghost use Rattle.aisrun.specs.Completing.{CanCheck, CanGenerate, CanLoad, CanParse, CanRun, HoldsRecords, IsDoneOrMemory};
 ghost use Rattle.played_runs.specs.declared.ending.Status8.{Status8};
 ghost use Rattle.aisrun.specs.Endings.{Ends, EndsBy};
-ghost use Rattle.aisrun.specs.Scripting.{BytesEnd, BytesLack};
-ghost use Rattle.aisrun.specs.RunSteps.{InputEnds, InputLacks, WordsLack};
+ghost use Rattle.aisrun.specs.RunSteps.{WordsLack};
 ghost use Rattle.cluster_core.specs.Worlds.{empty_world};
 
 use crate::check::run_check;
-use crate::ending::{bad_line, usage};
+use crate::ending::usage;
 use crate::expr::check_text;
 use crate::generating::generate;
-use crate::input::{INPUT_LIMIT, write_unread};
 use crate::scanning::scan;
 use callback_dispatch::Gate;
 use cluster_core::World;
 use commands::{Command, command_of, text_of, wanted_of};
 use disk_model::SharedDisk;
-use io_edge::{Sink, Source, read_all};
-use played_runs::{Status8, write_end, write_text};
-use script::{ScriptAnswer, ScriptWhy, parse_script};
+use io_edge::{Sink, Source};
+use played_runs::{Status8, write_end};
 use std::alloc::Global;
 use std::sync::Wait;
 use std::thread::Threads;
 use world_runs::{law_of_runs, play_script};
-
-// Writes which line of the input is bad.
-fn write_bad<K: Sink>(alloc: Global, out: &mut K, line: u32, why: ScriptWhy) -> Status8
-    ensures { Written (IsText Status8.ScriptRefused (codes "script line "
-        ++ (decimal line ++ (codes ": " ++ (why_word why ++ codes "\n"))))) IsNone
-        (edge K.written K.faults out.old out.new) result }
-{
-    match bad_line(alloc, line, why) {
-        Ok(end) => write_text(out, end.status, end.text.as_slice()),
-        Err(_) => Status8::Memory,
-    }
-}
-
-// Plays the script that these bytes are.
-fn run_bytes<R: Threads + Wait + Sync, K: Sink, D: SharedDisk, G: Gate>(
-    rt: &R,
-    alloc: Global,
-    bytes: &[u8],
-    out: &mut K,
-    disk: &mut D,
-    gate: &G,
-    world: &mut World,
-) -> Status8
-    requires short { length bytes.now ≤ 16777216 }
-    requires empty { world.old ≡ empty_world }
-    requires unarmed { (D.seen disk.old).tally.armed ≡ None }
-    ensures { let scene = stage (edge K.written K.faults out.old out.new)
-        D.seen disk.old disk.new world.old world.new
-        in Ended unasked (fault_count scene.disk) (BytesEnd bytes.now scene)
-        (BytesLack bytes.now scene) scene.sink result }
-{
-    match parse_script(alloc, bytes) {
-        Ok(lines) => play_script(rt, alloc, lines, out, disk, gate, world),
-        Err(ScriptAnswer::Memory) => Status8::Memory,
-        Err(ScriptAnswer::Bad { line, why }) => write_bad(alloc, out, line, why),
-    }
-}
-
-// Reads a script to its end and plays it.
-fn run_script<R: Threads + Wait + Sync, S: Source, K: Sink, D: SharedDisk, G: Gate>(
-    rt: &R,
-    alloc: Global,
-    source: &mut S,
-    out: &mut K,
-    disk: &mut D,
-    gate: &G,
-    world: &mut World,
-) -> Status8
-    requires empty { world.old ≡ empty_world }
-    requires unarmed { (D.seen disk.old).tally.armed ≡ None }
-    ensures { let source = edge S.left S.faults source.old source.new in
-        let scene = stage (edge K.written K.faults out.old out.new)
-        D.seen disk.old disk.new world.old world.new
-        in Ended (fault_count source) (fault_count scene.disk) (InputEnds source scene)
-        (InputLacks source scene) scene.sink result }
-{
-    match read_all(alloc, source, INPUT_LIMIT) {
-        Ok(bytes) => run_bytes(rt, alloc, bytes.as_slice(), out, disk, gate, world),
-        Err(answer) => write_unread(out, answer),
-    }
-}
 
 // The command that the words are is done.
 fn run_command<R: Threads + Wait + Sync, S: Source, K: Sink, D: SharedDisk, G: Gate>(

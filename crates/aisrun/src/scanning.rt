@@ -11,13 +11,13 @@ ghost use Rattle.aisrun.specs.Scanning.{IsExprOf};
 ghost use Rattle.aisrun.specs.ScanSteps.{ExpressionRead, RecordEnds, RecordGives, RecordsEnd, ScannedBy, SourceEnds, SourceLacks};
 
 use crate::ending::{bad_text, inseparable};
-use crate::input::{INPUT_LIMIT, write_unread};
 use commands::RecordQuery;
 use format_expr::{Expr, ExprAnswer, parse_expr};
 use io_edge::{Sink, Source, read_all, write_all};
 use played_runs::{End, Status8, unwritten, write_text};
 use record_scan::{record_length, separable};
 use scan_lines::{Shown, record_line, rest_line};
+use script_runs::{INPUT_LIMIT, write_unread};
 use std::alloc::{AllocError, Global};
 
 /// What a text gave.

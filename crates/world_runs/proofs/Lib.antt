@@ -1,3 +1,4 @@
 mod FallLaws
 mod FigureLaws
 mod LoadLaws
+mod ScriptLaws

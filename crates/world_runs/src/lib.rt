@@ -5,7 +5,9 @@ mod figures;
 mod laws;
 mod loading;
 mod playing;
+mod scripting;
 
 pub use laws::law_of_runs;
 pub use loading::load;
 pub use playing::play_script;
+pub use scripting::run_script;
