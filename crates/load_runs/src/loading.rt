@@ -280,7 +280,8 @@ where
     requires tell { CanTell T.Fn tell.now }
     ensures { (line_of : LineOf W.game) → TellsStates W.game D.seen line_of T.Fn tell.now
         → (earlier : D) → D.seen disk.old ≡ names_told (D.seen earlier)
-        → LoadedOn W.game line_of (load_lines count seed) (stage (edge K.written K.faults out.old out.new)
+        → LoadedOn W.game line_of (load_lines count seed)
+        (stage (edge K.written K.faults out.old out.new)
         D.seen earlier disk.new world.old world.new) result }
 {
     match begin_load(disk, world, begin) {
@@ -323,7 +324,8 @@ where
     requires tell { CanTell T.Fn tell.now }
     ensures script { IsScriptOf (load_lines count seed) (load_text count seed) }
     ensures ends { (line_of : LineOf W.game) → TellsStates W.game D.seen line_of T.Fn tell.now
-        → LoadedOn W.game line_of (load_lines count seed) (stage (edge K.written K.faults out.old out.new)
+        → LoadedOn W.game line_of (load_lines count seed)
+        (stage (edge K.written K.faults out.old out.new)
         D.seen disk.old disk.new world.old world.new) result }
 {
     law_of_loads();

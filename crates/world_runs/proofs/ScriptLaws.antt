@@ -1,5 +1,5 @@
 -- The world of two servers plays the lines of scripts as they are shared.
-use Rattle.std.proofs.Common.{◌≡◌, ℤ, ◌≤ℤ◌, Bool, true, false, if◌then◌else◌, Option, Some, None, refl, ap, sym, arith}
+use Rattle.std.proofs.Common.{◌≡◌, ℤ, ◌≤ℤ◌, Bool, true, false, if◌then◌else◌, Some, None, refl, ap, sym, arith}
 use Rattle.std.specs.Prelude.{ℕ, int_lt}
 use Rattle.std.proofs.lemmas.Int.{ints}
 use Rattle.script_lines.specs.declared.line.Line.{Line}
