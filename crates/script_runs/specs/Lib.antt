@@ -1,4 +1,3 @@
 pub mod Handed
-pub mod Inputs
 pub mod Reading
 pub mod Scripting

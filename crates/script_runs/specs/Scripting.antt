@@ -7,7 +7,8 @@ use Rattle.played_runs.specs.Edges.{Edge, LeavesAll, Stage}
 use Rattle.played_runs.specs.Ends.{PlayEnds, PlayLacks}
 use Rattle.played_runs.specs.Games.{Game}
 use Rattle.played_runs.specs.Writing.{Reaching}
-use Rattle.script_runs.specs.Reading.{InputTooLong, ReadsWhole, ScriptFails, SourceFailed}
+use Rattle.script_inputs.specs.Inputs.{ReadsWhole, SourceFailed, InputTooLong}
+use Rattle.script_runs.specs.Reading.{ScriptFails}
 
 module _ {P G W : Type 0} (game : Game P Line G W) where
   -- how the bytes of an input end on a stage

@@ -1,43 +1,18 @@
 //! Reading a script to its end and playing it.
-ghost use Rattle.std.specs.Prelude.{◌≡◌, ◌≤◌, ◌++◌, None, codes, length, IfOk};
-ghost use Rattle.std.specs.Fmt.{decimal};
-ghost use Rattle.script_lines.specs.Refusals.{why_word};
-ghost use Rattle.played_runs.specs.declared.ending.Status8.{Status8};
+ghost use Rattle.std.specs.Prelude.{◌≡◌, ◌≤◌, None, length};
 ghost use Rattle.played_runs.specs.Edges.{edge, fault_count, stage};
-ghost use Rattle.played_runs.specs.Writing.{Ended, IsNone, IsText, Written, unasked};
+ghost use Rattle.played_runs.specs.Writing.{Ended, unasked};
 ghost use Rattle.script_runs.specs.Handed.{PlaysScriptLines, PlaysScripts};
 ghost use Rattle.script_runs.specs.Scripting.{BytesEnd, BytesLack, InputEnds, InputLacks};
 
-use crate::reading::{INPUT_LIMIT, write_unread};
 use ais_values::Seq;
 use disk_model::SharedDisk;
 use io_edge::{Sink, Source, read_all};
-use played_runs::{End, Playable, Status8, end_with, write_text};
-use script::{ScriptAnswer, ScriptWhy, parse_script};
+use played_runs::{Playable, Status8};
+use script::{ScriptAnswer, parse_script};
+use script_inputs::{INPUT_LIMIT, write_bad, write_unread};
 use script_lines::Line;
-use std::alloc::{AllocError, Global};
-
-/// The end where a line of the input is bad.
-pub fn bad_line(alloc: Global, line: u32, why: ScriptWhy) -> Result<End, AllocError>
-    ensures status { IfOk result (λ end. end.status ≡ Status8.ScriptRefused) }
-    ensures text { IfOk result (λ end. end.text.items ≡ codes "script line "
-        ++ (decimal line ++ (codes ": " ++ (why_word why ++ codes "\n")))) }
-{
-    let printed = format!(in alloc; "script line {line}: {why}\n")?;
-    end_with(alloc, Status8::ScriptRefused, printed.as_bytes())
-}
-
-// Writes which line of the input is bad.
-fn write_bad<K: Sink>(alloc: Global, out: &mut K, line: u32, why: ScriptWhy) -> Status8
-    ensures { Written (IsText Status8.ScriptRefused (codes "script line "
-        ++ (decimal line ++ (codes ": " ++ (why_word why ++ codes "\n"))))) IsNone
-        (edge K.written K.faults out.old out.new) result }
-{
-    match bad_line(alloc, line, why) {
-        Ok(end) => write_text(out, end.status, end.text.as_slice()),
-        Err(_) => Status8::Memory,
-    }
-}
+use std::alloc::Global;
 
 // Plays the script that these bytes are.
 fn run_bytes<W, K: Sink, D: SharedDisk, P>(

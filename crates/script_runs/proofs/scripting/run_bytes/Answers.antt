@@ -1,7 +1,4 @@
-use Rattle.std.proofs.Common.{◌++◌, inl, inr, refl}
-use Rattle.std.specs.Prelude.{codes}
-use Rattle.std.specs.Fmt.{decimal}
-use Rattle.script_lines.specs.Refusals.{why_word}
+use Rattle.std.proofs.Common.{inl, inr, refl}
 use Rattle.played_runs.specs.declared.ending.Status8.TheVariants.{ScriptRefused}
 use Rattle.played_runs.specs.Edges.{edge, fault_count, stage}
 use Rattle.played_runs.specs.Writing.{Counting, IsNone, IsText, Standing, unasked}
@@ -9,6 +6,7 @@ use Rattle.played_runs.proofs.CountSteps.{on-same}
 use Rattle.played_runs.proofs.EndingSteps.{lacked, text-ends}
 use Rattle.played_runs.proofs.WritingSteps.{ended-as, written-as}
 use Rattle.played_runs.specs.Ends.{PlayEnds, PlayLacks}
+use Rattle.script_inputs.specs.Inputs.{bad_line}
 use Rattle.script_runs.specs.Reading.{ScriptFails}
 use Rattle.script_runs.specs.Scripting.{BytesEnd, BytesLack}
 use Rattle.script_runs.proofs.ReadingSteps.{play-bytes}
@@ -37,7 +35,7 @@ returns-in-Err-Bad g c =
     let disk = fault_count scene.disk in
     let line = c.in-Err-Bad.line in
     let why = c.in-Err-Bad.why in
-    let text = codes "script line " ++ (decimal line ++ (codes ": " ++ (why_word why ++ codes "\n"))) in
+    let text = bad_line line why in
     let E = Counting unasked disk ((BytesEnd g.W.Playable.game) c.args.bytes.now scene) in
     let fails : ScriptFails c.args.bytes.now text = record {
       number = line;

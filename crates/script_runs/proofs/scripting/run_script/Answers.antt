@@ -1,9 +1,10 @@
 use Rattle.std.proofs.Common.{ℕ, List, length, inl, inr, refl, ap, sym, subst, arith}
 use Rattle.played_runs.specs.Edges.{edge, fault_count, stage}
 use Rattle.played_runs.proofs.WritingSteps.{ended-read}
-use Rattle.script_runs.specs.Reading.{input_limit, ReadsWhole}
+use Rattle.script_inputs.specs.Inputs.{input_limit, ReadsWhole}
+use Rattle.script_inputs.proofs.Reading.{unread-written}
 use Rattle.script_runs.specs.Scripting.{BytesEnd, BytesLack, InputEnds, InputLacks}
-use Rattle.script_runs.proofs.ReadingSteps.{bytes-input, unread-written}
+use Rattle.script_runs.proofs.ReadingSteps.{bytes-input}
 use Rattle.script_runs.proofs.scripting.run_script.Goals as goal
 
 pub run_bytes-requires-clause-short : goal.run_bytes-requires-clause-short
