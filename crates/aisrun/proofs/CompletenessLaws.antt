@@ -1,13 +1,9 @@
 -- Where nothing fails, and the input is what was asked for, a run ends well or lacks memory.
-use Rattle.std.proofs.Common.{◌≡◌, ℕ, ◌+◌, ◌≤◌, inl, inr, List, ◌∷◌, ◌++◌, length, Option, Some, None, refl, ap, sym, ◌∙◌, subst, arith, append-nil}
+use Rattle.std.proofs.Common.{◌≡◌, ℕ, ◌≤◌, inl, inr, List, ◌∷◌, length, Some, None, refl, ap, sym, ◌∙◌, subst}
 use Rattle.std.specs.Prelude.{IfSome}
-use Rattle.std.specs.FinMap.{keys, entries, len-entries, len-empty}
-use Rattle.std.specs.Ordering.{nat_cmp}
-use Rattle.std.specs.Cmp.Lexicographic.{slice_cmp}
-use Rattle.std.proofs.lemmas.List.{length-append, length-map}
+use Rattle.std.specs.FinMap.{keys}
 use Rattle.ais_values.specs.declared.kind.StreamKind.{StreamKind}
-use Rattle.disk_model.specs.Disk.{File, no_files}
-use Rattle.io_edge.specs.Reads.{TakesAll, TakesSome}
+use Rattle.disk_model.specs.Disk.{no_files}
 use Rattle.format_expr.specs.declared.fault.ExprFault.{ExprFault}
 use Rattle.format_expr.specs.declared.piece.Piece.{Piece}
 use Rattle.format_expr.specs.Faults.{IsFault}
@@ -18,7 +14,7 @@ use Rattle.script_language.specs.Scripts.{IsScriptOf}
 use Rattle.played_runs.specs.declared.ending.Status8.{Status8}
 use Rattle.played_runs.specs.declared.ending.Status8.TheVariants.{Done, ScriptRefused, Usage, Memory, ReadFault, WriteFault, DiskFault, RootNotEmpty, TooLong, Inseparable}
 use Rattle.played_runs.specs.Counts.{HasRisen, RisesBefore}
-use Rattle.played_runs.specs.Edges.{Edge, before, after, fault_count}
+use Rattle.played_runs.specs.Edges.{before, fault_count}
 use Rattle.played_runs.specs.Writing.{Ended, Whole, SinkFailed, SinkLacked, Lacked}
 use Rattle.aisrun.specs.Edges.{Around}
 use Rattle.commands.specs.declared.command.Command.{Command}
@@ -26,42 +22,10 @@ use Rattle.commands.specs.declared.command.Command.TheVariants.{Run, Check, Expr
 use Rattle.commands.specs.declared.command.RecordQuery.{RecordQuery}
 use Rattle.commands.specs.Commands.{command_of, text_of}
 use Rattle.aisrun.specs.Completing.{CanCheck, CanParse, CanRun, HoldsRecords, IsDoneOrMemory}
-use Rattle.aisrun.specs.Endings.{input_limit, ReadsWhole, InputTooLong, Ends, Fails, HasLines, InLoad, InScript, Reads, ReadsSource, NoScript, NoExpression}
+use Rattle.script_inputs.proofs.Reading.{no-name, not-too-long, read-all}
+use Rattle.aisrun.specs.Endings.{Ends, Fails, HasLines, InLoad, InScript, Reads, ReadsSource, NoScript, NoExpression}
 use Rattle.aisrun.specs.RunSteps.{WordsLack}
 use Rattle.aisrun.specs.Scanning.{CanScan, CannotPart, TakesText}
-
--- a source that tells its bytes and was read to its end gave just these
-all-taken : (bytes taken : List ℕ) (new : Option (List ℕ)) (limit : ℕ) → TakesAll (Some bytes) new limit taken → taken ≡ bytes
-all-taken bytes taken None limit takes = absurd takes.taken
-all-taken bytes taken (Some left) limit takes =
-    let same : bytes ≡ taken ++ left = takes.taken in
-    sym (same ∙ ap (λ rest. taken ++ rest) takes.ended ∙ append-nil taken)
-
-read-all : {S : Type 0} (source : Edge S (List ℕ)) (bytes taken : List ℕ) → before source ≡ Some bytes → ReadsWhole source taken → taken ≡ bytes
-read-all source bytes taken left read =
-    let T : Option (List ℕ) → Type 0 = λ old. TakesAll old (after source) input_limit taken in
-    all-taken bytes taken (after source) input_limit (subst T left read)
-
--- an input of at most the limit is not too long
-not-longer : (bytes : List ℕ) (new : Option (List ℕ)) → length bytes ≤ 16777216 → TakesSome (Some bytes) new (λ count. count ≡ input_limit + 1) → ⊥
-unfolding input_limit
-not-longer bytes None short takes = takes.taken
-not-longer bytes (Some left) short takes =
-    let same : bytes ≡ takes.bytes ++ left = takes.taken in
-    let count : length takes.bytes ≡ 16777217 = takes.count in
-    omega (arith, ap length same, length-append takes.bytes left, count)
-
-not-too-long : {S : Type 0} (source : Edge S (List ℕ)) (bytes text : List ℕ) → before source ≡ Some bytes → length bytes ≤ 16777216 → InputTooLong source text → ⊥
-not-too-long source bytes text left short long =
-    let T : Option (List ℕ) → Type 0 = λ old. TakesSome old (after source) (λ count. count ≡ input_limit + 1) in
-    not-longer bytes (after source) short (subst T left long.taken)
-
--- a disk without files lists no name
-pub no-name : (name : List ℕ) (others : List (List ℕ)) → keys no_files ≡ name ∷ others → ⊥
-no-name name others same =
-    let none : length (entries no_files) ≡ 0 = sym (len-entries no_files) ∙ len-empty (slice_cmp nat_cmp) File in
-    let some : length (keys no_files) ≡ length others + 1 = omega (arith, ap length same) in
-    omega (arith, none, some, length-map (entries no_files) (λ e. e.0))
 
 -- the end that a run comes to, where neither source nor disk fails
 module _ {S K D : Type 0} (run : Around S K D) where

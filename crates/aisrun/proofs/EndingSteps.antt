@@ -1,30 +1,24 @@
 -- Ends of parts are ends of the whole.
 use Rattle.std.proofs.Common.{◌≡◌, ℕ, inl, inr, List, [], Option, Some, None, Result, Ok, Err, refl, sym, subst}
-use Rattle.std.specs.Prelude.{IfOk, Vec, codes}
-use Rattle.std.specs.declared.alloc.Global.{Global}
-use Rattle.ais_values.specs.Causes.{RoseExactlyOn}
+use Rattle.std.specs.Prelude.{IfOk}
 use Rattle.ais_values.specs.declared.kind.StreamKind.{StreamKind}
-use Rattle.io_edge.specs.Reads.{ReadsAll}
-use Rattle.io_edge.specs.declared.answers.ReadAnswer.{ReadAnswer}
-use Rattle.io_edge.specs.declared.answers.ReadAnswer.TheVariants as read
 use Rattle.script_lines.specs.declared.line.Line.{Line}
 use Rattle.script_language.specs.Scripts.{IsScriptOf}
 use Rattle.played_runs.specs.declared.ending.End.{End}
 use Rattle.played_runs.specs.declared.ending.Status8.{Status8}
 use Rattle.played_runs.specs.declared.ending.Status8.TheVariants.{Done, ScriptRefused, Usage, Memory, ReadFault, WriteFault, DiskFault, RootNotEmpty, TooLong, Inseparable}
 use Rattle.played_runs.specs.Counts.{HasStood}
-use Rattle.played_runs.specs.Edges.{Edge, before, after, fault_count, IsUntouched, LeavesAll}
-use Rattle.played_runs.specs.Writing.{Reaching, Written, Counting, Standing, Ended, unasked}
-use Rattle.played_runs.proofs.CountSteps.{on-same, other-stood, stood-on, untouched-on, untouched-stood}
-use Rattle.played_runs.proofs.WritingSteps.{written-as}
-use Rattle.played_runs.proofs.EndingSteps.{text-ends}
+use Rattle.played_runs.specs.Edges.{Edge, fault_count, IsUntouched, LeavesAll}
+use Rattle.played_runs.specs.Writing.{Reaching, Counting, unasked}
+use Rattle.played_runs.proofs.CountSteps.{on-same, untouched-on, untouched-stood}
 use Rattle.aisrun.specs.Edges.{Around}
 use Rattle.cluster_core.specs.Game.{world_game}
 use Rattle.commands.specs.declared.command.Command.{Command}
 use Rattle.commands.specs.declared.command.Command.TheVariants.{Run, Check, Expr, Gen, Load, Scan}
 use Rattle.commands.specs.Commands.{command_of, text_of}
 use Rattle.aisrun.specs.Checking.{CheckEnds, Judged, IsScript, IsNoScript, ExprEnds, IsExpression, IsNoExpression}
-use Rattle.aisrun.specs.Endings.{input_limit, ReadsWhole, SourceFailed, InputTooLong, HasScript, InScript, LacksBy, Unbegun, Unjudged, RunLacks, Unread as Unknown, Unplayed, Ends, Checked, Parsed, Ran, NoScript, NoExpression}
+use Rattle.script_inputs.specs.Inputs.{ReadsWhole}
+use Rattle.aisrun.specs.Endings.{HasScript, InScript, LacksBy, Unbegun, Unjudged, RunLacks, Unread as Unknown, Unplayed, Ends, Checked, Parsed, Ran, NoScript, NoExpression}
 use Rattle.aisrun.specs.RunSteps.{InputEnds, InputLacks}
 use Rattle.script_runs.specs.Scripting.{BytesLack}
 use Rattle.aisrun.specs.Usage.{usage_line}

@@ -17,7 +17,8 @@ use Rattle.aisrun.specs.Completing.{CanLoad, IsDoneOrMemory}
 use Rattle.aisrun.specs.Endings.{Ends, NoExpression, NoScript, Reads, ReadsSource}
 use Rattle.aisrun.specs.RunSteps.{WordsLack}
 use Rattle.aisrun.specs.Scanning.{TakesText}
-use Rattle.aisrun.proofs.CompletenessLaws.{asked, no-name, well}
+use Rattle.script_inputs.proofs.Reading.{no-name}
+use Rattle.aisrun.proofs.CompletenessLaws.{asked, well}
 
 module _ {S K D : Type 0} (run : Around S K D) (count seed : ℕ) (words : command_of run.words ≡ Some (Load count seed)) where
   another : (other : Command) → command_of run.words ≡ Some other → Load count seed ≡ other

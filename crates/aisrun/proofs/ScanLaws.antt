@@ -17,7 +17,7 @@ use Rattle.played_runs.proofs.WritingSteps.{written-behind}
 use Rattle.commands.specs.declared.command.RecordQuery.{RecordQuery}
 use Rattle.played_runs.specs.declared.ending.Status8.{Status8}
 use Rattle.played_runs.specs.declared.ending.Status8.TheVariants.{Done, ScriptRefused, Usage, Memory, ReadFault, WriteFault, DiskFault, RootNotEmpty, TooLong, Inseparable}
-use Rattle.aisrun.specs.Endings.{ReadsWhole}
+use Rattle.script_inputs.specs.Inputs.{ReadsWhole}
 use Rattle.aisrun.specs.Scanning.{IsParted}
 use Rattle.aisrun.specs.ScanSteps.{TextRefused, NotSpelled, NotParted, RecordEnds, RecordsEnd, SourceEnds, SourceLacks, ScanEnds, ScanLacks}
 

@@ -5,7 +5,9 @@ use Rattle.played_runs.specs.declared.ending.Status8.{Status8}
 use Rattle.played_runs.specs.declared.ending.Status8.TheVariants.{Done, ScriptRefused, ReadFault, TooLong}
 use Rattle.played_runs.specs.Edges.{Edge}
 use Rattle.played_runs.specs.Writing.{Reaching}
-use Rattle.aisrun.specs.Endings.{InputTooLong, ReadsWhole, ScriptPasses, ScriptFails, SourceFailed, TextPasses, TextFails}
+use Rattle.script_inputs.specs.Inputs.{InputTooLong, ReadsWhole, SourceFailed}
+use Rattle.script_runs.specs.Reading.{ScriptFails}
+use Rattle.aisrun.specs.Endings.{ScriptPasses, TextPasses, TextFails}
 
 -- how the bytes of an input are judged
 pub data Judged (bytes : List ℕ) (status : Status8) (text : List ℕ) : Type 0 where

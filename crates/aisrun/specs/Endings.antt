@@ -1,10 +1,9 @@
 -- Words of public clauses: how a run ends, which is its status with what was read, what is printed, and what it leaves.
-use Rattle.std.specs.Prelude.{◌≡◌, ℕ, ◌+◌, ◌≤◌, true, false, List, [], ◌++◌, length, codes}
+use Rattle.std.specs.Prelude.{◌≡◌, ℕ, true, false, List, [], ◌++◌, length, codes}
 use Rattle.std.specs.Prelude.{Option, Some, None, ◌⊎◌}
 use Rattle.std.specs.Io.KnownBytes.{Appends}
 use Rattle.std.specs.Fmt.{decimal}
 use Rattle.ais_values.specs.declared.kind.StreamKind.{StreamKind}
-use Rattle.io_edge.specs.Reads.{TakesAll, TakesSome}
 use Rattle.io_edge.specs.Writes.{AppendsFront}
 use Rattle.format_expr.specs.declared.piece.Piece.{Piece}
 use Rattle.format_expr.specs.declared.fault.ExprFault.{ExprFault}
@@ -27,7 +26,8 @@ use Rattle.commands.specs.declared.command.Command.TheVariants.{Run, Check, Expr
 use Rattle.commands.specs.Commands.{command_of, text_of as word_text}
 use Rattle.load_runs.specs.Loading.{counting_faults}
 use Rattle.world_runs.specs.Loads.{CountedBehind, LoadFails, TellsLoad}
-pub use Rattle.script_runs.specs.Reading.{input_limit, InputTooLong, ReadsScript, ReadsWhole, ScriptFails, SourceFailed}
+use Rattle.script_inputs.specs.Inputs.{ReadsWhole, SourceFailed, InputTooLong}
+use Rattle.script_runs.specs.Reading.{ReadsScript, ScriptFails}
 use Rattle.aisrun.specs.Scanning.{CanScan, CannotScan, ScansAll, ScansFront, TakesText}
 use Rattle.aisrun.specs.Usage.{usage_line}
 

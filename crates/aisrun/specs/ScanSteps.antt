@@ -11,7 +11,8 @@ use Rattle.played_runs.specs.declared.ending.Status8.{Status8}
 use Rattle.played_runs.specs.declared.ending.Status8.TheVariants.{Done, ScriptRefused, ReadFault, TooLong, Inseparable}
 use Rattle.aisrun.specs.declared.scanning.Expression.{Expression}
 use Rattle.aisrun.specs.declared.scanning.Expression.TheVariants as expression
-use Rattle.aisrun.specs.Endings.{ReadsWhole, SourceFailed, InputTooLong, TextFails}
+use Rattle.script_inputs.specs.Inputs.{ReadsWhole, SourceFailed, InputTooLong}
+use Rattle.aisrun.specs.Endings.{TextFails}
 use Rattle.aisrun.specs.Scanning.{IsParted, CannotPart}
 
 -- the text does not serve

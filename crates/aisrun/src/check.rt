@@ -8,7 +8,7 @@ use crate::ending::passed;
 use io_edge::{Sink, Source, read_all};
 use played_runs::{End, Status8, write_end};
 use script::{ScriptAnswer, count_lines};
-use script_runs::{INPUT_LIMIT, bad_line, write_unread};
+use script_inputs::{INPUT_LIMIT, bad_line, write_unread};
 use std::alloc::{AllocError, Global};
 
 // How the bytes of an input are judged.

@@ -17,7 +17,7 @@ use io_edge::{Sink, Source, read_all, write_all};
 use played_runs::{End, Status8, unwritten, write_text};
 use record_scan::{record_length, separable};
 use scan_lines::{Shown, record_line, rest_line};
-use script_runs::{INPUT_LIMIT, write_unread};
+use script_inputs::{INPUT_LIMIT, write_unread};
 use std::alloc::{AllocError, Global};
 
 /// What a text gave.

@@ -4,9 +4,9 @@ use Rattle.played_runs.specs.Writing.{Counting, IsNone, Standing, unasked}
 use Rattle.played_runs.proofs.CountSteps.{on-same}
 use Rattle.played_runs.proofs.EndingSteps.{end-written}
 use Rattle.aisrun.specs.Checking.{CheckEnds, Judged}
-use Rattle.aisrun.specs.Endings.{input_limit, ReadsWhole}
+use Rattle.script_inputs.specs.Inputs.{input_limit, ReadsWhole}
 use Rattle.aisrun.proofs.EndingSteps.{judged-check, ok-ends}
-use Rattle.script_runs.proofs.ReadingSteps.{unread-written}
+use Rattle.script_inputs.proofs.Reading.{unread-written}
 use Rattle.aisrun.proofs.check.run_check.Goals as goal
 
 pub judge-requires : goal.judge-requires

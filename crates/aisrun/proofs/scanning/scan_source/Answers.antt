@@ -4,9 +4,9 @@ use Rattle.played_runs.specs.Edges.{edge, fault_count}
 use Rattle.played_runs.specs.Writing.{Counting, Standing, unasked}
 use Rattle.played_runs.proofs.CountSteps.{on-same}
 use Rattle.played_runs.proofs.WritingSteps.{written-as}
-use Rattle.aisrun.specs.Endings.{input_limit, ReadsWhole}
+use Rattle.script_inputs.specs.Inputs.{input_limit, ReadsWhole}
 use Rattle.aisrun.specs.ScanSteps.{RecordsEnd, SourceEnds, SourceLacks}
-use Rattle.script_runs.proofs.ReadingSteps.{unread-written}
+use Rattle.script_inputs.proofs.Reading.{unread-written}
 use Rattle.aisrun.proofs.ScanLaws.{records-source}
 use Rattle.aisrun.proofs.scanning.scan_source.Goals as goal
 
