@@ -18,7 +18,7 @@ use Rattle.played_runs.specs.Games.{Game}
 use Rattle.played_runs.specs.Laws.{IsGame}
 use Rattle.played_runs.specs.Steps.{EventsEnd, Going, LacksBehind}
 use Rattle.played_runs.specs.declared.ending.Status8.{Status8}
-use Rattle.played_runs.specs.declared.ending.Status8.TheVariants.{Done, ScriptRefused, Usage, Memory, ReadFault, WriteFault, DiskFault, RootNotEmpty, TooLong, Inseparable}
+use Rattle.played_runs.specs.declared.ending.Status8.TheVariants.{Done, ScriptRefused, Usage, Memory, ReadFault, WriteFault, DiskFault, RootNotEmpty, TooLong, JournalRefused, Inseparable}
 use Rattle.load_runs.specs.Loading.{AtCount, CountedBehind, FilesCounted, InPlay, LineOf, LoadFails, TellsLoad, counting_faults}
 use Rattle.load_runs.specs.LoadSteps.{CountedSince, LoadEnds, LoadWants, RunEnds, RunWants, TellEnds, TellLacks}
 
@@ -52,6 +52,7 @@ module _ {P S W : Type 0} (game : Game P Line S W) (is_game : IsGame game) (line
     tells-run start before (Some WriteFault) text ends = absurd ends
     tells-run start before (Some RootNotEmpty) text ends = absurd ends
     tells-run start before (Some TooLong) text ends = absurd ends
+    tells-run start before (Some JournalRefused) text ends = absurd ends
     tells-run start before (Some Inseparable) text ends = absurd ends
 
     pub tells-lack : (start : ℕ) → start ≤ mid.faults → (text : List ℕ) → TellLacks mid left text → Standing unasked (start, left.faults) ((RunWants game) setup places held first left Since world events) text
@@ -93,6 +94,7 @@ module _ {P S W : Type 0} (game : Game P Line S W) (is_game : IsGame game) (line
     run-load (Some WriteFault) text ends = absurd ends
     run-load (Some RootNotEmpty) text ends = absurd ends
     run-load (Some TooLong) text ends = absurd ends
+    run-load (Some JournalRefused) text ends = absurd ends
     run-load (Some Inseparable) text ends = absurd ends
 
     wants-by : (unwritten : List ℕ) → (LacksBehind game) setup places (shows old).files (counters_of (shows mid)) (shows new) world_after events unwritten ⊎ ((EventsEnd game) setup places (shows old).files (counters_of (shows mid)) (shows new) (StoodUpTo shows) world_after events None unwritten ⊎ ((since : (CountedSince game) false setup places (shows old).files (counters_of (shows mid)) (shows new) world_after events unwritten) × HasStood (since.goes.counts.faults, (shows new).faults))) → PlayLacks game (opening ∷ events) On unwritten ⊎ (((done rest : List Line) × PlayedTo game On (opening ∷ events) done rest unwritten) ⊎ ((done : List Line) × (behind : CountedBehind game false On (opening ∷ events) done unwritten) × HasStood (counting_faults behind)))

@@ -2,7 +2,7 @@
 use Rattle.std.proofs.Common.{◌≡◌, ℕ, ◌≤◌, ◌⊎◌, inl, inr, Option, Some, None, Result, Err, ap, sym, ◌∙◌, subst, arith}
 use Rattle.ais_values.specs.Causes.{one_more, RoseExactlyOn}
 use Rattle.played_runs.specs.declared.ending.Status8.{Status8}
-use Rattle.played_runs.specs.declared.ending.Status8.TheVariants.{Done, ScriptRefused, Usage, Memory, ReadFault, WriteFault, DiskFault, RootNotEmpty, TooLong, Inseparable}
+use Rattle.played_runs.specs.declared.ending.Status8.TheVariants.{Done, ScriptRefused, Usage, Memory, ReadFault, WriteFault, DiskFault, RootNotEmpty, TooLong, JournalRefused, Inseparable}
 use Rattle.played_runs.specs.Counts.{HasGoneOn, HasStood, HasRisen, RisesBefore}
 use Rattle.played_runs.specs.Edges.{Edge, fault_count, IsUntouched}
 use Rattle.played_runs.specs.Writing.{unasked}
@@ -68,6 +68,7 @@ rises-as (Some WriteFault) s d source disk stood risen disk_stood disk_on disk_r
 rises-as (Some DiskFault) s d source disk stood risen disk_stood disk_on disk_risen rises = (stood rises.0, disk_risen rises.1)
 rises-as (Some RootNotEmpty) s d source disk stood risen disk_stood disk_on disk_risen rises = (stood rises.0, disk_stood rises.1)
 rises-as (Some TooLong) s d source disk stood risen disk_stood disk_on disk_risen rises = (stood rises.0, disk_stood rises.1)
+rises-as (Some JournalRefused) s d source disk stood risen disk_stood disk_on disk_risen rises = (stood rises.0, disk_stood rises.1)
 rises-as (Some Inseparable) s d source disk stood risen disk_stood disk_on disk_risen rises = (stood rises.0, disk_stood rises.1)
 
 -- the source was read to its end before

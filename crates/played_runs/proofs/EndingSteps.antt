@@ -11,7 +11,7 @@ use Rattle.disk_model.specs.Seen.{DiskSeen}
 use Rattle.plain_service.specs.Setups.{Setup}
 use Rattle.played_runs.specs.declared.ending.End.{End}
 use Rattle.played_runs.specs.declared.ending.Status8.{Status8}
-use Rattle.played_runs.specs.declared.ending.Status8.TheVariants.{Done, ScriptRefused, Usage, Memory, ReadFault, WriteFault, DiskFault, RootNotEmpty, TooLong, Inseparable}
+use Rattle.played_runs.specs.declared.ending.Status8.TheVariants.{Done, ScriptRefused, Usage, Memory, ReadFault, WriteFault, DiskFault, RootNotEmpty, TooLong, JournalRefused, Inseparable}
 use Rattle.played_runs.specs.Edges.{Edge, edge, before, Stage, stage}
 use Rattle.played_runs.specs.Ends.{PlayEnds, PlayLacks, InEvent, StoodUpTo, AtEvent}
 use Rattle.played_runs.specs.Games.{Game}
@@ -102,6 +102,7 @@ module _ {P L S W : Type 0} (game : Game P L S W) where
     events-of old new opening events setup places begins empty (Some WriteFault) text ends = absurd ends
     events-of old new opening events setup places begins empty (Some RootNotEmpty) text ends = absurd ends
     events-of old new opening events setup places begins empty (Some TooLong) text ends = absurd ends
+    events-of old new opening events setup places begins empty (Some JournalRefused) text ends = absurd ends
     events-of old new opening events setup places begins empty (Some Inseparable) text ends = absurd ends
 
     -- the names were asked for before and the cluster was begun, and the disk counted what that counts

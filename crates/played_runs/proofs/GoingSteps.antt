@@ -22,7 +22,7 @@ use Rattle.service_laws.specs.StorageOf.{storage_of}
 use Rattle.cluster_clients.proofs.ToldLines.{printed-append}
 use Rattle.cluster_rounds.specs.Worlds.{TellsFiles}
 use Rattle.played_runs.specs.declared.ending.Status8.{Status8}
-use Rattle.played_runs.specs.declared.ending.Status8.TheVariants.{Done, ScriptRefused, Usage, Memory, ReadFault, WriteFault, DiskFault, RootNotEmpty, TooLong, Inseparable}
+use Rattle.played_runs.specs.declared.ending.Status8.TheVariants.{Done, ScriptRefused, Usage, Memory, ReadFault, WriteFault, DiskFault, RootNotEmpty, TooLong, JournalRefused, Inseparable}
 use Rattle.played_runs.specs.Counts.{HasGoneOn, HasRisen, RisesBefore}
 use Rattle.played_runs.specs.Edges.{edge}
 use Rattle.played_runs.specs.Ends.{FaultLeft, Showing, Ending}
@@ -158,6 +158,7 @@ module _ {P L S W : Type 0} (game : Game P L S W) (is_game : IsGame game) where
     line-events mid left Since old new done next others front going since (Some WriteFault) text ends = absurd ends
     line-events mid left Since old new done next others front going since (Some RootNotEmpty) text ends = absurd ends
     line-events mid left Since old new done next others front going since (Some TooLong) text ends = absurd ends
+    line-events mid left Since old new done next others front going since (Some JournalRefused) text ends = absurd ends
     line-events mid left Since old new done next others front going since (Some Inseparable) text ends = absurd ends
 
     -- memory that was wanting in a line was wanting behind those before it
@@ -187,6 +188,7 @@ module _ {P L S W : Type 0} (game : Game P L S W) (is_game : IsGame game) where
     line-counts start between later before mid left state next new (Some WriteFault) text ends rises = absurd ends
     line-counts start between later before mid left state next new (Some RootNotEmpty) text ends rises = absurd ends
     line-counts start between later before mid left state next new (Some TooLong) text ends rises = absurd ends
+    line-counts start between later before mid left state next new (Some JournalRefused) text ends rises = absurd ends
     line-counts start between later before mid left state next new (Some Inseparable) text ends rises = absurd ends
 
     module _ {K : Type 0} (told : K → Option (List ℕ)) (faults : K → ℕ) where

@@ -2,7 +2,7 @@
 use Rattle.std.specs.Prelude.{ℕ}
 use Rattle.played_runs.specs.declared.ending.Status8.{Status8}
 use Rattle.played_runs.specs.declared.ending.Status8.TheVariants.{Done, ScriptRefused, Usage, Memory, ReadFault, WriteFault, DiskFault}
-use Rattle.played_runs.specs.declared.ending.Status8.TheVariants.{RootNotEmpty, TooLong, Inseparable}
+use Rattle.played_runs.specs.declared.ending.Status8.TheVariants.{RootNotEmpty, TooLong, JournalRefused, Inseparable}
 
 abbrev pub exit_status : Status8 → ℕ
 exit_status Done = 0
@@ -14,4 +14,5 @@ exit_status WriteFault = 5
 exit_status DiskFault = 6
 exit_status RootNotEmpty = 7
 exit_status TooLong = 8
+exit_status JournalRefused = 9
 exit_status Inseparable = 10

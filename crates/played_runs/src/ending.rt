@@ -26,12 +26,14 @@ pub enum Status8 {
     RootNotEmpty,
     /// The input has more than 16 MiB.
     TooLong,
+    /// There was no journal to start a server from.
+    JournalRefused,
     /// The texts of the expression's tokens cannot be told apart in a record.
     Inseparable,
 }
 
 impl Status8 {
-    /// The exit status, 0 to 8 or 10.
+    /// The exit status, 0 to 10.
     pub fn code(self) -> u8
         ensures { result ≡ exit_status self }
     {
@@ -45,6 +47,7 @@ impl Status8 {
             Status8::DiskFault => 6,
             Status8::RootNotEmpty => 7,
             Status8::TooLong => 8,
+            Status8::JournalRefused => 9,
             Status8::Inseparable => 10,
         }
     }

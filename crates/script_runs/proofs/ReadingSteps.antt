@@ -3,7 +3,7 @@ use Rattle.std.proofs.Common.{ℕ, List, Option, Some, None}
 use Rattle.script_lines.specs.declared.line.Line.{Line}
 use Rattle.script_language.specs.Scripts.{IsScriptOf}
 use Rattle.played_runs.specs.declared.ending.Status8.{Status8}
-use Rattle.played_runs.specs.declared.ending.Status8.TheVariants.{Done, ScriptRefused, Usage, Memory, ReadFault, WriteFault, DiskFault, RootNotEmpty, TooLong, Inseparable}
+use Rattle.played_runs.specs.declared.ending.Status8.TheVariants.{Done, ScriptRefused, Usage, Memory, ReadFault, WriteFault, DiskFault, RootNotEmpty, TooLong, JournalRefused, Inseparable}
 use Rattle.played_runs.specs.Edges.{Edge, Stage}
 use Rattle.played_runs.specs.Ends.{PlayEnds}
 use Rattle.played_runs.specs.Games.{Game}
@@ -22,6 +22,7 @@ module _ {P G W : Type 0} (game : Game P Line G W) where
   play-bytes scene bytes lines script (Some ReadFault) text ends = absurd ends
   play-bytes scene bytes lines script (Some WriteFault) text ends = absurd ends
   play-bytes scene bytes lines script (Some TooLong) text ends = absurd ends
+  play-bytes scene bytes lines script (Some JournalRefused) text ends = absurd ends
   play-bytes scene bytes lines script (Some Inseparable) text ends = absurd ends
 
   pub bytes-input : {S K D : Type 0} (source : Edge S (List ℕ)) (scene : Stage W K D) (bytes : List ℕ) → ReadsWhole source bytes → (reached : Option Status8) (text : List ℕ) → (BytesEnd game) bytes scene reached text → (InputEnds game) source scene reached text
@@ -35,4 +36,5 @@ module _ {P G W : Type 0} (game : Game P Line G W) where
   bytes-input source scene bytes read (Some ReadFault) text ends = absurd ends.2
   bytes-input source scene bytes read (Some WriteFault) text ends = absurd ends.2
   bytes-input source scene bytes read (Some TooLong) text ends = absurd ends.2
+  bytes-input source scene bytes read (Some JournalRefused) text ends = absurd ends.2
   bytes-input source scene bytes read (Some Inseparable) text ends = absurd ends.2

@@ -3,7 +3,7 @@ use Rattle.std.proofs.Common.{ℕ, inl, inr, List, Option, Some, None}
 use Rattle.trio_lines.specs.declared.line.TrioLine.{TrioLine}
 use Rattle.trio_lines.specs.Scripts.{IsTrioOf}
 use Rattle.played_runs.specs.declared.ending.Status8.{Status8}
-use Rattle.played_runs.specs.declared.ending.Status8.TheVariants.{Done, ScriptRefused, Usage, Memory, ReadFault, WriteFault, DiskFault, RootNotEmpty, TooLong, Inseparable}
+use Rattle.played_runs.specs.declared.ending.Status8.TheVariants.{Done, ScriptRefused, Usage, Memory, ReadFault, WriteFault, DiskFault, RootNotEmpty, TooLong, JournalRefused, Inseparable}
 use Rattle.played_runs.specs.Edges.{Edge, Stage}
 use Rattle.played_runs.specs.Ends.{PlayEnds}
 use Rattle.script_inputs.specs.Inputs.{ReadsWhole}
@@ -24,6 +24,7 @@ play-bytes scene bytes lines script (Some Memory) text ends = absurd ends
 play-bytes scene bytes lines script (Some ReadFault) text ends = absurd ends
 play-bytes scene bytes lines script (Some WriteFault) text ends = absurd ends
 play-bytes scene bytes lines script (Some TooLong) text ends = absurd ends
+play-bytes scene bytes lines script (Some JournalRefused) text ends = absurd ends
 play-bytes scene bytes lines script (Some Inseparable) text ends = absurd ends
 
 pub bytes-input : {S K D : Type 0} (source : Edge S (List ℕ)) (scene : Stage TrioWorld K D) (bytes : List ℕ) → ReadsWhole source bytes → (reached : Option Status8) (text : List ℕ) → BytesEnd bytes scene reached text → InputEnds source scene reached text
@@ -37,6 +38,7 @@ bytes-input source scene bytes read (Some Memory) text ends = absurd ends.2
 bytes-input source scene bytes read (Some ReadFault) text ends = absurd ends.2
 bytes-input source scene bytes read (Some WriteFault) text ends = absurd ends.2
 bytes-input source scene bytes read (Some TooLong) text ends = absurd ends.2
+bytes-input source scene bytes read (Some JournalRefused) text ends = absurd ends.2
 bytes-input source scene bytes read (Some Inseparable) text ends = absurd ends.2
 
 module _ {S K D : Type 0} (run : TrioRun S K D) where
@@ -51,6 +53,7 @@ module _ {S K D : Type 0} (run : TrioRun S K D) where
   input-ends (Some Usage) text ends = absurd ends.2.2
   input-ends (Some Memory) text ends = absurd ends.2.2
   input-ends (Some WriteFault) text ends = absurd ends.2.2
+  input-ends (Some JournalRefused) text ends = absurd ends.2.2
   input-ends (Some Inseparable) text ends = absurd ends.2.2
 
   bytes-lacks : (text bytes : List ℕ) → ReadsWhole run.source bytes → BytesLack bytes run.stage text → TrioLacks run text

@@ -6,7 +6,7 @@ use Rattle.std.specs.Io.KnownBytes.{Appends}
 use Rattle.disk_model.specs.Disk.{no_files}
 use Rattle.trio_lines.specs.Scripts.{IsTrioOf}
 use Rattle.played_runs.specs.declared.ending.Status8.{Status8}
-use Rattle.played_runs.specs.declared.ending.Status8.TheVariants.{Done, ScriptRefused, Usage, Memory, ReadFault, WriteFault, DiskFault, RootNotEmpty, TooLong, Inseparable}
+use Rattle.played_runs.specs.declared.ending.Status8.TheVariants.{Done, ScriptRefused, Usage, Memory, ReadFault, WriteFault, DiskFault, RootNotEmpty, TooLong, JournalRefused, Inseparable}
 use Rattle.played_runs.specs.Counts.{HasRisen, HasStood, RisesBefore, RisesBy}
 use Rattle.played_runs.specs.Edges.{before, after, fault_count}
 use Rattle.played_runs.specs.Writing.{Ended, Whole, SinkFailed, SinkLacked, Lacked}
@@ -42,6 +42,7 @@ module _ {S K D : Type 0} (run : TrioRun S K D) where
   ends-by DiskFault ended = prints DiskFault (λ e. cc) (λ e. cc) ended
   ends-by RootNotEmpty ended = prints RootNotEmpty (λ e. cc) (λ e. cc) ended
   ends-by TooLong ended = prints TooLong (λ e. cc) (λ e. cc) ended
+  ends-by JournalRefused ended = prints JournalRefused (λ e. cc) (λ e. cc) ended
   ends-by Inseparable ended = prints Inseparable (λ e. cc) (λ e. cc) ended
   ends-by WriteFault (Whole text e stood appends) = absurd e.0.2
   ends-by WriteFault (SinkFailed same risen reached text e front) =
@@ -63,6 +64,7 @@ module _ {S K D : Type 0} (run : TrioRun S K D) where
   rises-by DiskFault ended = counts DiskFault (λ e. cc) (λ e. cc) ended
   rises-by RootNotEmpty ended = counts RootNotEmpty (λ e. cc) (λ e. cc) ended
   rises-by TooLong ended = counts TooLong (λ e. cc) (λ e. cc) ended
+  rises-by JournalRefused ended = counts JournalRefused (λ e. cc) (λ e. cc) ended
   rises-by Inseparable ended = counts Inseparable (λ e. cc) (λ e. cc) ended
   rises-by WriteFault (Whole text e stood appends) = absurd e.0.2
   rises-by WriteFault (SinkFailed same risen reached text e front) = ((reached, e.1), risen)
@@ -89,6 +91,7 @@ module _ {S K D : Type 0} (run : TrioRun S K D) where
   served can reads disk Usage text rises end = absurd end.2
   served can reads disk Memory text rises end = absurd end.2
   served can reads disk WriteFault text rises end = absurd end.2
+  served can reads disk JournalRefused text rises end = absurd end.2
   served can reads disk Inseparable text rises end = absurd end.2
 
   -- **only memory may be missing**
