@@ -12,7 +12,7 @@ use Rattle.record_scan.specs.Separable.{StandsInWay}
 use Rattle.script_lines.specs.declared.line.Line.{Line}
 use Rattle.script_language.specs.Scripts.{IsScriptOf}
 use Rattle.played_runs.specs.declared.ending.Status8.{Status8}
-use Rattle.played_runs.specs.declared.ending.Status8.TheVariants.{Done, ScriptRefused, Usage, Memory, ReadFault, WriteFault, DiskFault, RootNotEmpty, TooLong, Inseparable}
+use Rattle.played_runs.specs.declared.ending.Status8.TheVariants.{Done, ScriptRefused, Usage, Memory, ReadFault, WriteFault, DiskFault, RootNotEmpty, TooLong, JournalRefused, Inseparable}
 use Rattle.played_runs.specs.Counts.{HasRisen, RisesBefore}
 use Rattle.played_runs.specs.Edges.{before, fault_count}
 use Rattle.played_runs.specs.Writing.{Ended, Whole, SinkFailed, SinkLacked, Lacked}
@@ -91,6 +91,7 @@ module _ {S K D : Type 0} (run : Around S K D) where
       let found : (others : List (List ℕ)) × (keys no_files ≡ holds.name ∷ others) = subst (λ o. IfSome o (λ f. (others : List (List ℕ)) × (keys f ≡ holds.name ∷ others))) empty holds.least in
       absurd (no-name holds.name found.0 found.1)
   played lines bytes words left short script empty reads disk TooLong text rises end = absurd (not-too-long run.source bytes text left short end.why)
+  played lines bytes words left short script empty reads disk JournalRefused text rises end = absurd end
   played lines bytes words left short script empty reads disk Inseparable text rises end =
       absurd (not-scripts end.cannot.query end.cannot.asked (inl words))
 
@@ -111,6 +112,7 @@ module _ {S K D : Type 0} (run : Around S K D) where
   checked lines bytes words left short script reads RootNotEmpty text rises end =
       absurd (not-played Check words (λ e. cc) (λ count seed e. cc) end.0 end.1)
   checked lines bytes words left short script reads TooLong text rises end = absurd (not-too-long run.source bytes text left short end.why)
+  checked lines bytes words left short script reads JournalRefused text rises end = absurd end
   checked lines bytes words left short script reads Inseparable text rises end =
       absurd (not-scripts end.cannot.query end.cannot.asked (inr words))
 
@@ -129,6 +131,7 @@ module _ {S K D : Type 0} (run : Around S K D) where
   parsed kind words faultless DiskFault text end = absurd (not-failed (Expr kind) words (λ e. cc) (λ count seed e. cc) text end)
   parsed kind words faultless RootNotEmpty text end = absurd (not-played (Expr kind) words (λ e. cc) (λ count seed e. cc) end.0 end.1)
   parsed kind words faultless TooLong text end = absurd (not-asking kind words end.words)
+  parsed kind words faultless JournalRefused text end = absurd end
   parsed kind words faultless Inseparable text end =
       let no : Expr kind ≡ Scan end.cannot.query = asked (Expr kind) (Scan end.cannot.query) words end.cannot.asked in
       absurd cc
@@ -150,6 +153,7 @@ module _ {S K D : Type 0} (run : Around S K D) where
   scanned can bytes left short reads RootNotEmpty text rises end =
       absurd (not-played (Scan can.query) can.asked (λ e. cc) (λ count seed e. cc) end.0 end.1)
   scanned can bytes left short reads TooLong text rises end = absurd (not-too-long run.source bytes text left short end.why)
+  scanned can bytes left short reads JournalRefused text rises end = absurd end
   scanned can bytes left short reads Inseparable text rises end =
       let cannot = end.cannot in
       let same : Scan cannot.query ≡ Scan can.query = asked (Scan cannot.query) (Scan can.query) cannot.asked can.asked in

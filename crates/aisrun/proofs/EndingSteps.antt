@@ -6,7 +6,7 @@ use Rattle.script_lines.specs.declared.line.Line.{Line}
 use Rattle.script_language.specs.Scripts.{IsScriptOf}
 use Rattle.played_runs.specs.declared.ending.End.{End}
 use Rattle.played_runs.specs.declared.ending.Status8.{Status8}
-use Rattle.played_runs.specs.declared.ending.Status8.TheVariants.{Done, ScriptRefused, Usage, Memory, ReadFault, WriteFault, DiskFault, RootNotEmpty, TooLong, Inseparable}
+use Rattle.played_runs.specs.declared.ending.Status8.TheVariants.{Done, ScriptRefused, Usage, Memory, ReadFault, WriteFault, DiskFault, RootNotEmpty, TooLong, JournalRefused, Inseparable}
 use Rattle.played_runs.specs.Counts.{HasStood}
 use Rattle.played_runs.specs.Edges.{Edge, fault_count, IsUntouched, LeavesAll}
 use Rattle.played_runs.specs.Writing.{Reaching, Counting, unasked}
@@ -14,7 +14,7 @@ use Rattle.played_runs.proofs.CountSteps.{on-same, untouched-on, untouched-stood
 use Rattle.aisrun.specs.Edges.{Around}
 use Rattle.cluster_core.specs.Game.{world_game}
 use Rattle.commands.specs.declared.command.Command.{Command}
-use Rattle.commands.specs.declared.command.Command.TheVariants.{Run, Check, Expr, Gen, Load, Scan}
+use Rattle.commands.specs.declared.command.Command.TheVariants.{Run, Check, Trio, Expr, Gen, Load, Scan}
 use Rattle.commands.specs.Commands.{command_of, text_of}
 use Rattle.aisrun.specs.Checking.{CheckEnds, Judged, IsScript, IsNoScript, ExprEnds, IsExpression, IsNoExpression}
 use Rattle.script_inputs.specs.Inputs.{ReadsWhole}
@@ -50,6 +50,7 @@ module _ {S K D : Type 0} (run : Around S K D) where
   input-run asked (Some Usage) text ends = absurd ends.2.2
   input-run asked (Some Memory) text ends = absurd ends.2.2
   input-run asked (Some WriteFault) text ends = absurd ends.2.2
+  input-run asked (Some JournalRefused) text ends = absurd ends.2.2
   input-run asked (Some Inseparable) text ends = absurd ends.2.2
 
   bytes-lacks : command_of run.words ≡ Some Run → (text bytes : List ℕ) → ReadsWhole run.source bytes → (BytesLack world_game) bytes run.stage text → RunLacks run text
@@ -76,6 +77,7 @@ module _ {S K D : Type 0} (run : Around S K D) where
   check-run asked all (Some WriteFault) text ends = absurd ends
   check-run asked all (Some DiskFault) text ends = absurd ends
   check-run asked all (Some RootNotEmpty) text ends = absurd ends
+  check-run asked all (Some JournalRefused) text ends = absurd ends
   check-run asked all (Some Inseparable) text ends = absurd ends
 
   -- an end where neither source nor disk was asked
@@ -97,14 +99,15 @@ module _ {S K D : Type 0} (run : Around S K D) where
       subst E (sym status) (record { unknown = unknown; all = all; source = source; printed = text }, (untouched-stood run.source source, untouched-stood run.stage.disk all.disk))
 
 -- memory was wanting before anything was done
-pub lacks-early : {S K D : Type 0} (run : Around S K D) (asked : Option Command) → LeavesAll run.stage → IsUntouched run.source → LacksBy asked run []
-lacks-early run None all source = (refl, all, source)
-lacks-early run (Some Run) all source = Unknown refl all
-lacks-early run (Some Check) all source = (refl, all)
-lacks-early run (Some (Expr kind)) all source = (refl, all, source)
-lacks-early run (Some (Gen count seed)) all source = (refl, all, source)
-lacks-early run (Some (Load count seed)) all source = Unbegun refl all source
-lacks-early run (Some (Scan query)) all source = Unjudged refl all source
+pub lacks-early : {S K D : Type 0} (run : Around S K D) (asked : Option Command) → (asked ≡ Some Trio → ⊥) → LeavesAll run.stage → IsUntouched run.source → LacksBy asked run []
+lacks-early run None other all source = (refl, all, source)
+lacks-early run (Some Run) other all source = Unknown refl all
+lacks-early run (Some Check) other all source = (refl, all)
+lacks-early run (Some Trio) other all source = absurd (other refl)
+lacks-early run (Some (Expr kind)) other all source = (refl, all, source)
+lacks-early run (Some (Gen count seed)) other all source = (refl, all, source)
+lacks-early run (Some (Load count seed)) other all source = Unbegun refl all source
+lacks-early run (Some (Scan query)) other all source = Unjudged refl all source
 
 -- the end of a part
 pub ok-ends : {X : Type 0} (end : Result End X) (P : Status8 → List ℕ → Type 0) (E : Reaching) → ((status : Status8) (text : List ℕ) → P status text → E (Some status) text) → IfOk end (λ one. P one.status one.text.items) → IfOk end (λ one. E (Some one.status) one.text.items)

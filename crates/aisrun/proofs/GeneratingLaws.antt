@@ -11,7 +11,7 @@ use Rattle.aisrun.specs.Edges.{Around}
 use Rattle.commands.specs.declared.command.Command.{Command}
 use Rattle.commands.specs.declared.command.Command.TheVariants.{Run, Check, Expr, Gen, Scan}
 use Rattle.played_runs.specs.declared.ending.Status8.{Status8}
-use Rattle.played_runs.specs.declared.ending.Status8.TheVariants.{Done, ScriptRefused, Usage, Memory, ReadFault, WriteFault, DiskFault, RootNotEmpty, TooLong, Inseparable}
+use Rattle.played_runs.specs.declared.ending.Status8.TheVariants.{Done, ScriptRefused, Usage, Memory, ReadFault, WriteFault, DiskFault, RootNotEmpty, TooLong, JournalRefused, Inseparable}
 use Rattle.commands.specs.Commands.{command_of}
 use Rattle.aisrun.specs.Completing.{CanGenerate, IsDoneOrMemory}
 use Rattle.aisrun.specs.Endings.{Ends, Generated, NoExpression, NoScript, Reads, ReadsSource}
@@ -53,6 +53,7 @@ module _ {S K D : Type 0} (run : Around S K D) (count seed : ℕ) (words : comma
   generated DiskFault text end = absurd (not-failed run (Gen count seed) words (λ e. cc) (λ n from e. cc) text end)
   generated RootNotEmpty text end = absurd (not-played run (Gen count seed) words (λ e. cc) (λ n from e. cc) end.0 end.1)
   generated TooLong text end = absurd (not-source end.words)
+  generated JournalRefused text end = absurd end
   generated Inseparable text end =
       let no : Gen count seed ≡ Scan end.cannot.query = another (Scan end.cannot.query) end.cannot.asked in
       absurd cc

@@ -6,3 +6,4 @@ mod StatusLaws
 mod CompletenessLaws
 mod GeneratingLaws
 mod LoadCompleteness
+mod TrioEndings

@@ -11,7 +11,7 @@ use Rattle.aisrun.specs.Edges.{Around}
 use Rattle.commands.specs.declared.command.Command.{Command}
 use Rattle.commands.specs.declared.command.Command.TheVariants.{Run, Check, Expr, Load, Scan}
 use Rattle.played_runs.specs.declared.ending.Status8.{Status8}
-use Rattle.played_runs.specs.declared.ending.Status8.TheVariants.{Done, ScriptRefused, Usage, Memory, ReadFault, WriteFault, DiskFault, RootNotEmpty, TooLong, Inseparable}
+use Rattle.played_runs.specs.declared.ending.Status8.TheVariants.{Done, ScriptRefused, Usage, Memory, ReadFault, WriteFault, DiskFault, RootNotEmpty, TooLong, JournalRefused, Inseparable}
 use Rattle.commands.specs.Commands.{command_of}
 use Rattle.aisrun.specs.Completing.{CanLoad, IsDoneOrMemory}
 use Rattle.aisrun.specs.Endings.{Ends, NoExpression, NoScript, Reads, ReadsSource}
@@ -53,6 +53,7 @@ module _ {S K D : Type 0} (run : Around S K D) (count seed : ℕ) (words : comma
       let found : (others : List (List ℕ)) × (keys no_files ≡ holds.name ∷ others) = subst (λ o. IfSome o (λ f. (others : List (List ℕ)) × (keys f ≡ holds.name ∷ others))) empty holds.least in
       absurd (no-name holds.name found.0 found.1)
   loaded empty disk TooLong text rises end = absurd (not-source end.words)
+  loaded empty disk JournalRefused text rises end = absurd end
   loaded empty disk Inseparable text rises end =
       let no : Load count seed ≡ Scan end.cannot.query = another (Scan end.cannot.query) end.cannot.asked in
       absurd cc

@@ -10,7 +10,7 @@ use Rattle.commands.specs.declared.command.Command.TheVariants.{Load}
 use Rattle.played_runs.specs.Counts.{HasStood}
 use Rattle.played_runs.specs.Edges.{IsUntouched}
 use Rattle.played_runs.specs.declared.ending.Status8.{Status8}
-use Rattle.played_runs.specs.declared.ending.Status8.TheVariants.{Done, ScriptRefused, Usage, Memory, ReadFault, WriteFault, DiskFault, RootNotEmpty, TooLong, Inseparable}
+use Rattle.played_runs.specs.declared.ending.Status8.TheVariants.{Done, ScriptRefused, Usage, Memory, ReadFault, WriteFault, DiskFault, RootNotEmpty, TooLong, JournalRefused, Inseparable}
 use Rattle.cluster_core.specs.Runs.{PlayLacks, PlayedTo}
 use Rattle.load_runs.specs.Loading.{counting_faults}
 use Rattle.world_runs.specs.Loads.{CountedBehind, LoadEnds, LoadWants}
@@ -35,6 +35,7 @@ module _ {S K D : Type 0} (run : Around S K D) (count seed : ℕ) (words : comma
   load-run (Some ReadFault) text ends = absurd ends
   load-run (Some WriteFault) text ends = absurd ends
   load-run (Some TooLong) text ends = absurd ends
+  load-run (Some JournalRefused) text ends = absurd ends
   load-run (Some Inseparable) text ends = absurd ends
 
   lacks-by : (text unwritten : List ℕ) → text ≡ [] → PlayLacks lines run.stage unwritten ⊎ (((done rest : List Line) × PlayedTo run.stage lines done rest unwritten) ⊎ ((done : List Line) × (behind : CountedBehind false run.stage lines done unwritten) × HasStood (counting_faults behind))) → LoadLacks run text

@@ -7,7 +7,7 @@ use Rattle.commands.specs.declared.command.Command.{Command}
 use Rattle.commands.specs.declared.command.Command.TheVariants.{Scan}
 use Rattle.commands.specs.declared.command.RecordQuery.{RecordQuery}
 use Rattle.played_runs.specs.declared.ending.Status8.{Status8}
-use Rattle.played_runs.specs.declared.ending.Status8.TheVariants.{Done, ScriptRefused, Usage, Memory, ReadFault, WriteFault, DiskFault, RootNotEmpty, TooLong, Inseparable}
+use Rattle.played_runs.specs.declared.ending.Status8.TheVariants.{Done, ScriptRefused, Usage, Memory, ReadFault, WriteFault, DiskFault, RootNotEmpty, TooLong, JournalRefused, Inseparable}
 use Rattle.commands.specs.Commands.{command_of, text_of, wanted_of}
 use Rattle.aisrun.specs.Endings.{Ends, LacksBy, NoExpression, RecordsLack, Scanned, Unheld, Unjudged, Untold}
 use Rattle.aisrun.specs.Scanning.{CanScan, IsParted}
@@ -25,6 +25,7 @@ module _ {S K D : Type 0} (run : Around S K D) (query : RecordQuery) (asked : co
   scan-run (Some ScriptRefused) text ends = NoExpression query.kind (inr (query, asked, refl)) all ends.0 ends.1
   scan-run (Some ReadFault) text ends = record { words = inr (can-by ends.0 ends.1); all = all; why = ends.2 }
   scan-run (Some TooLong) text ends = record { words = inr (can-by ends.0 ends.1); all = all; why = ends.2 }
+  scan-run (Some JournalRefused) text ends = absurd ends
   scan-run (Some Inseparable) text ends =
       record { cannot = record { query = query; asked = asked; why = ends.1 }; all = all; source = ends.0 }
   scan-run (Some Usage) text ends = absurd ends.2.2

@@ -16,7 +16,7 @@ use Rattle.played_runs.proofs.EndingSteps.{text-ends}
 use Rattle.played_runs.proofs.WritingSteps.{written-behind}
 use Rattle.commands.specs.declared.command.RecordQuery.{RecordQuery}
 use Rattle.played_runs.specs.declared.ending.Status8.{Status8}
-use Rattle.played_runs.specs.declared.ending.Status8.TheVariants.{Done, ScriptRefused, Usage, Memory, ReadFault, WriteFault, DiskFault, RootNotEmpty, TooLong, Inseparable}
+use Rattle.played_runs.specs.declared.ending.Status8.TheVariants.{Done, ScriptRefused, Usage, Memory, ReadFault, WriteFault, DiskFault, RootNotEmpty, TooLong, JournalRefused, Inseparable}
 use Rattle.script_inputs.specs.Inputs.{ReadsWhole}
 use Rattle.aisrun.specs.Scanning.{IsParted}
 use Rattle.aisrun.specs.ScanSteps.{TextRefused, NotSpelled, NotParted, RecordEnds, RecordsEnd, SourceEnds, SourceLacks, ScanEnds, ScanLacks}
@@ -78,6 +78,7 @@ module _ {S : Type 0} (query : RecordQuery) (pieces : List Piece) (wanted : List
   records-source bytes read stood (Some DiskFault) text ends = absurd ends
   records-source bytes read stood (Some RootNotEmpty) text ends = absurd ends
   records-source bytes read stood (Some TooLong) text ends = absurd ends
+  records-source bytes read stood (Some JournalRefused) text ends = absurd ends
   records-source bytes read stood (Some Inseparable) text ends = absurd ends
 
   -- a text that serves
@@ -92,6 +93,7 @@ module _ {S : Type 0} (query : RecordQuery) (pieces : List Piece) (wanted : List
   source-scan asked parted (Some WriteFault) text ends = absurd ends.2
   source-scan asked parted (Some DiskFault) text ends = absurd ends.2
   source-scan asked parted (Some RootNotEmpty) text ends = absurd ends.2
+  source-scan asked parted (Some JournalRefused) text ends = absurd ends.2
   source-scan asked parted (Some Inseparable) text ends = absurd ends.2
 
   pub source-lacks : (asked : List ℕ) → IsParted query asked pieces → (text : List ℕ) → SourceLacks query pieces wanted source text → ScanLacks query asked wanted source text

@@ -1,7 +1,7 @@
 -- What each status of a run says.
 use Rattle.std.proofs.Common.{◌≡◌, Some, None}
 use Rattle.played_runs.specs.declared.ending.Status8.{Status8}
-use Rattle.played_runs.specs.declared.ending.Status8.TheVariants.{Done, ScriptRefused, Usage, Memory, ReadFault, WriteFault, DiskFault, RootNotEmpty, TooLong, Inseparable}
+use Rattle.played_runs.specs.declared.ending.Status8.TheVariants.{Done, ScriptRefused, Usage, Memory, ReadFault, WriteFault, DiskFault, RootNotEmpty, TooLong, JournalRefused, Inseparable}
 use Rattle.played_runs.specs.Counts.{HasStood, RisesBefore, RisesBy}
 use Rattle.played_runs.specs.Edges.{fault_count}
 use Rattle.played_runs.specs.Writing.{Ended, Whole, SinkFailed, SinkLacked, Lacked}
@@ -30,6 +30,7 @@ module _ {S K D : Type 0} (run : Around S K D) where
   ends-by DiskFault ended = prints DiskFault (λ e. cc) (λ e. cc) ended
   ends-by RootNotEmpty ended = prints RootNotEmpty (λ e. cc) (λ e. cc) ended
   ends-by TooLong ended = prints TooLong (λ e. cc) (λ e. cc) ended
+  ends-by JournalRefused ended = prints JournalRefused (λ e. cc) (λ e. cc) ended
   ends-by Inseparable ended = prints Inseparable (λ e. cc) (λ e. cc) ended
   ends-by WriteFault (Whole text e stood appends) = absurd e.0
   ends-by WriteFault (SinkFailed same risen reached text e front) =
@@ -58,6 +59,7 @@ module _ {S K D : Type 0} (run : Around S K D) where
   rises-by DiskFault ended = counts DiskFault (λ e. cc) (λ e. cc) ended
   rises-by RootNotEmpty ended = counts RootNotEmpty (λ e. cc) (λ e. cc) ended
   rises-by TooLong ended = counts TooLong (λ e. cc) (λ e. cc) ended
+  rises-by JournalRefused ended = counts JournalRefused (λ e. cc) (λ e. cc) ended
   rises-by Inseparable ended = counts Inseparable (λ e. cc) (λ e. cc) ended
   rises-by WriteFault (Whole text e stood appends) = absurd e.0
   rises-by WriteFault (SinkFailed same risen reached text e front) = ((reached, e.1), risen)

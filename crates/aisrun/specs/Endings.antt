@@ -10,7 +10,6 @@ use Rattle.format_expr.specs.declared.fault.ExprFault.{ExprFault}
 use Rattle.format_expr.specs.Language.{ArePiecesOf}
 use Rattle.format_expr.specs.Faults.{IsFault, word_of}
 use Rattle.script_lines.specs.declared.line.Line.{Line}
-use Rattle.script_lines.specs.declared.line.Line.TheVariants as line
 use Rattle.script_language.specs.Scripts.{IsScriptOf}
 use Rattle.load_script.specs.Texts.{load_text}
 use Rattle.played_runs.specs.declared.ending.Status8.{Status8}
@@ -19,14 +18,14 @@ use Rattle.played_runs.specs.declared.ending.Status8.TheVariants.{RootNotEmpty, 
 use Rattle.played_runs.specs.Counts.{HasGoneOn, HasStood, RisesBefore}
 use Rattle.played_runs.specs.Edges.{Edge, before, after, fault_count, IsUntouched, LeavesAll}
 use Rattle.played_runs.specs.Ends.{RootHolds}
+use Rattle.script_inputs.specs.Inputs.{InputTooLong, ReadsWhole, SourceFailed}
 use Rattle.aisrun.specs.Edges.{Around}
 use Rattle.cluster_core.specs.Runs.{DiskFails, PlayEnds, PlayLacks, PlayedTo}
 use Rattle.commands.specs.declared.command.Command.{Command}
-use Rattle.commands.specs.declared.command.Command.TheVariants.{Run, Check, Expr, Gen, Load, Scan}
+use Rattle.commands.specs.declared.command.Command.TheVariants.{Run, Check, Trio, Expr, Gen, Load, Scan}
 use Rattle.commands.specs.Commands.{command_of, text_of as word_text}
 use Rattle.load_runs.specs.Loading.{counting_faults}
 use Rattle.world_runs.specs.Loads.{CountedBehind, LoadFails, TellsLoad}
-use Rattle.script_inputs.specs.Inputs.{ReadsWhole, SourceFailed, InputTooLong}
 use Rattle.script_runs.specs.Reading.{ReadsScript, ScriptFails}
 use Rattle.aisrun.specs.Scanning.{CanScan, CannotScan, ScansAll, ScansFront, TakesText}
 use Rattle.aisrun.specs.Usage.{usage_line}
@@ -186,11 +185,12 @@ pub data RecordsLack {S K D : Type 0} (run : Around S K D) (text : List ℕ) : T
   Unheld : CanScan run.words → text ≡ [] → LeavesAll run.stage → RecordsLack run text
   Untold : ScansOn run text → RecordsLack run text
 
--- the same of each command; `expr`, `gen`, `load` and words that are no command leave the source as it is
+-- the same of each command; `expr`, `gen`, `load` and words that are no command leave the source as it is; `trio` has clauses of its own
 abbrev pub LacksBy : {S K D : Type 0} → Option Command → Around S K D → List ℕ → Type 0
 LacksBy None run text = (text ≡ []) × LeavesAll run.stage × IsUntouched run.source
 LacksBy (Some Run) run text = RunLacks run text
 LacksBy (Some Check) run text = (text ≡ []) × LeavesAll run.stage
+LacksBy (Some Trio) run text = ⊥
 LacksBy (Some (Expr kind)) run text = (text ≡ []) × LeavesAll run.stage × IsUntouched run.source
 LacksBy (Some (Gen count seed)) run text = (text ≡ []) × LeavesAll run.stage × IsUntouched run.source
 LacksBy (Some (Load count seed)) run text = LoadLacks run text

@@ -5,6 +5,7 @@ pub mod Endings
 pub mod RunSteps
 pub mod ScanSteps
 pub mod Scanning
+pub mod Trios
 pub mod Usage
 pub use Rattle.io_edge.specs.Causes
 pub use Rattle.io_edge.specs.Reads

@@ -2,4 +2,4 @@
 use Rattle.std.specs.Prelude.{ℕ, List, codes}
 
 unfoldable pub usage_line : List ℕ
-usage_line = codes "usage: aisrun run, check, expr KIND TEXT, gen COUNT SEED, load COUNT SEED, scan KIND TEXT SIZE or find KIND TEXT SIZE TOKEN WORD\n"
+usage_line = codes "usage: aisrun run, check, expr KIND TEXT, gen COUNT SEED, load COUNT SEED, scan KIND TEXT SIZE, find KIND TEXT SIZE TOKEN WORD or trio\n"

@@ -12,10 +12,11 @@ mod scanning;
 
 use callback_dispatch::OpenGate;
 use cluster_core::World;
-use disk_model::DirDisk;
+use disk_model::{DirDisk, Root};
 use io_edge::{StdSink, StdSource};
 pub use played_runs::Status8;
 pub use run::run;
+use spare_server::TrioWorld;
 use std::alloc::AllocError;
 use std::env;
 use std::io::ErrorKind;
@@ -46,8 +47,9 @@ fn main(rt: HostRuntime) -> ExitCode {
     let alloc = rt.alloc();
     let mut source = StdSource::new(rt.stdin());
     let mut out = StdSink::new(rt.stdout());
-    let mut disk = DirDisk::new(files);
+    let mut disk = DirDisk::new(files, Root::Logs);
     let mut world = World::empty(alloc);
+    let mut trio = TrioWorld::empty(alloc);
     let status = run(
         &rt,
         alloc,
@@ -57,8 +59,10 @@ fn main(rt: HostRuntime) -> ExitCode {
         &mut disk,
         &OpenGate,
         &mut world,
+        &mut trio,
     );
     world.end();
+    trio.end();
     ExitCode::from(status.code())
 }
 

@@ -1,11 +1,11 @@
-//! The top call: the words, a source, a sink, a disk and a world, and the status that the run ends with.
+//! The top call: the words, a source, a sink, a disk and the worlds, and the status that the run ends with.
 ghost use Rattle.std.specs.Prelude.{◌≡◌, None, Some};
 ghost use Rattle.played_runs.specs.Counts.{HasRisen, NoneRises, RisesBy};
-ghost use Rattle.played_runs.specs.Edges.{edge, fault_count};
+ghost use Rattle.played_runs.specs.Edges.{edge};
 ghost use Rattle.played_runs.specs.Promises.{CallsBack, CommitsInTime, KeepsFiles, KeepsOneHistory, KeepsRecords};
 ghost use Rattle.played_runs.specs.Promises.{PrintsPosts, ReadsRightly, RepliesRightly, StandsOnce};
-ghost use Rattle.played_runs.specs.Telling.{TellsOnce};
-ghost use Rattle.played_runs.specs.Writing.{Ended};
+ghost use Rattle.played_runs.specs.AfterFault.{KeepsAtFault as KeepsTrioAtFault};
+ghost use Rattle.played_runs.specs.Telling.{TellsAtWant as TellsTrioAtWant, TellsOnce};
 ghost use Rattle.aisrun.specs.Edges.{around};
 ghost use Rattle.world_runs.specs.Counting.{CallsCounted};
 ghost use Rattle.world_runs.specs.Falling.{FallsByCause, FaultsFell};
@@ -13,9 +13,17 @@ ghost use Rattle.cluster_core.specs.Runs.{DeclinesRightly, KeepsAtFault, OfAllLi
 ghost use Rattle.commands.specs.Commands.{command_of, word_bytes};
 ghost use Rattle.aisrun.specs.Completing.{CanCheck, CanGenerate, CanLoad, CanParse, CanRun, HoldsRecords, IsDoneOrMemory};
 ghost use Rattle.played_runs.specs.declared.ending.Status8.{Status8};
-ghost use Rattle.aisrun.specs.Endings.{Ends, EndsBy};
-ghost use Rattle.aisrun.specs.RunSteps.{WordsLack};
+ghost use Rattle.aisrun.specs.Endings.{EndsBy};
+ghost use Rattle.aisrun.specs.RunSteps.{WordsEnd};
+ghost use Rattle.aisrun.specs.Trios.{AsksOther, AsksTrio, CanServeBy};
 ghost use Rattle.cluster_core.specs.Worlds.{empty_world};
+ghost use Rattle.spare_server.specs.Game.{trio_game};
+ghost use Rattle.spare_server.specs.Worlds.{empty_trio};
+ghost use Rattle.trio_command.specs.Completing.{IsServedOrMemory};
+ghost use Rattle.trio_command.specs.Endings.{TrioEndsBy, trio_run};
+ghost use Rattle.trio_runs.specs.Counting.{CallsCounted as TrioCallsCounted};
+ghost use Rattle.trio_runs.specs.Falling.{FallsByCause as FallsTrio, FaultsFell as FaultsFellTrio};
+ghost use Rattle.trio_runs.specs.Sentences.{DeclinesRightly as DeclinesTrio, OfAllLines as OfAllTrioLines, OfAllLinesOf as OfAllTrioLinesOf, SettlesAll as SettlesTrio, Throughout as ThroughoutTrio};
 
 use crate::check::run_check;
 use crate::ending::usage;
@@ -28,10 +36,13 @@ use commands::{Command, command_of, text_of, wanted_of};
 use disk_model::SharedDisk;
 use io_edge::{Sink, Source};
 use played_runs::{Status8, write_end};
+use spare_server::TrioWorld;
 use std::alloc::Global;
 use std::sync::Wait;
 use std::thread::Threads;
-use world_runs::{law_of_runs, play_script};
+use trio_command::run_trio;
+use trio_runs::law_of_trio_runs;
+use world_runs::{law_of_runs, load, run_script};
 
 // The command that the words are is done.
 fn run_command<R: Threads + Wait + Sync, S: Source, K: Sink, D: SharedDisk, G: Gate>(
@@ -44,19 +55,20 @@ fn run_command<R: Threads + Wait + Sync, S: Source, K: Sink, D: SharedDisk, G: G
     disk: &mut D,
     gate: &G,
     world: &mut World,
+    trio: &mut TrioWorld,
 ) -> Status8
     requires asked { Some command ≡ command_of (word_bytes words.now) }
     requires empty { world.old ≡ empty_world }
+    requires trio_empty { trio.old ≡ empty_trio }
     requires unarmed { (D.seen disk.old).tally.armed ≡ None }
-    ensures { let run = around (word_bytes words.now)
+    ensures { WordsEnd result (around (word_bytes words.now)
         (edge S.left S.faults source.old source.new) (edge K.written K.faults out.old out.new)
-        D.seen disk.old disk.new world.old world.new
-        in Ended (fault_count run.source) (fault_count run.stage.disk) (Ends run)
-        (WordsLack run) run.stage.sink result }
+        D.seen disk.old disk.new world.old world.new) trio.old trio.new }
 {
     match command {
         Command::Run => run_script(rt, alloc, source, out, disk, gate, world),
         Command::Check => run_check(alloc, source, out),
+        Command::Trio => run_trio(rt, alloc, source, out, disk, gate, trio),
         Command::Expr { kind } => write_end(out, check_text(alloc, kind, text_of(words))),
         Command::Gen { count, seed } => generate(alloc, count, seed, out),
         Command::Load { count, seed } => load(rt, alloc, count, seed, out, disk, gate, world),
@@ -76,23 +88,25 @@ fn run_words<R: Threads + Wait + Sync, S: Source, K: Sink, D: SharedDisk, G: Gat
     disk: &mut D,
     gate: &G,
     world: &mut World,
+    trio: &mut TrioWorld,
 ) -> Status8
     requires empty { world.old ≡ empty_world }
+    requires trio_empty { trio.old ≡ empty_trio }
     requires unarmed { (D.seen disk.old).tally.armed ≡ None }
-    ensures { let run = around (word_bytes words.now)
+    ensures { WordsEnd result (around (word_bytes words.now)
         (edge S.left S.faults source.old source.new) (edge K.written K.faults out.old out.new)
-        D.seen disk.old disk.new world.old world.new
-        in Ended (fault_count run.source) (fault_count run.stage.disk) (Ends run)
-        (WordsLack run) run.stage.sink result }
+        D.seen disk.old disk.new world.old world.new) trio.old trio.new }
 {
     match command_of(alloc, words) {
-        Ok(Some(command)) => run_command(rt, alloc, command, words, source, out, disk, gate, world),
+        Ok(Some(command)) => run_command(
+            rt, alloc, command, words, source, out, disk, gate, world, trio,
+        ),
         Ok(None) => write_end(out, usage(alloc)),
         Err(_) => Status8::Memory,
     }
 }
 
-/// Does what the words ask for, over a source, a sink, a disk and an empty world, and tells the status that the run ends with.
+/// Does what the words ask for, over a source, a sink, a disk and two empty worlds, and tells the status that the run ends with.
 ///
 /// The words `run` read the source to its end as a script and play it over the disk: its first line begins a cluster, and the
 /// others are its events, whose lines are written as each event ends; the workers of a dispatch pass the gate. The words
@@ -104,6 +118,9 @@ fn run_words<R: Threads + Wait + Sync, S: Source, K: Sink, D: SharedDisk, G: Gat
 /// TEXT SIZE TOKEN WORD` of those in which the token of this number has the word as its text. Before the source is read a text
 /// is refused that is no expression (`ScriptRefused`), or of whose tokens the texts cannot be told apart in records of the size
 /// (`Inseparable`). SIZE is 0, for records that end with their first line feed, or 32 to 16,384; TOKEN is 1 to 1,024.
+///
+/// The words `trio` do what `run` does with a script for three servers, on the world that comes last; the clauses that are named
+/// after them, and `serves`, say of it what the others say of `run`. It leaves the other world, and all other words leave its own.
 ///
 /// The disk is not armed before.
 ///
@@ -142,14 +159,23 @@ pub fn run<R: Threads + Wait + Sync, S: Source, K: Sink, D: SharedDisk, G: Gate>
     disk: &mut D,
     gate: &G,
     world: &mut World,
+    trio: &mut TrioWorld,
 ) -> Status8
     requires empty { world.old ≡ empty_world }
+    requires trio_empty { trio.old ≡ empty_trio }
     requires unarmed { (D.seen disk.old).tally.armed ≡ None }
 
     // How the run ends, by its status.
-    ensures ends { EndsBy result (around (word_bytes words.now)
+    ensures ends { AsksOther (word_bytes words.now) → EndsBy result (around (word_bytes words.now)
         (edge S.left S.faults source.old source.new) (edge K.written K.faults out.old out.new)
         D.seen disk.old disk.new world.old world.new) }
+    ensures trio_ends { AsksTrio (word_bytes words.now) → TrioEndsBy result (trio_run
+        (edge S.left S.faults source.old source.new) (edge K.written K.faults out.old out.new)
+        D.seen disk.old disk.new trio.old trio.new) }
+
+    // The other world stays.
+    ensures trio_stays { AsksOther (word_bytes words.now) → trio.new ≡ trio.old }
+    ensures world_stays { AsksTrio (word_bytes words.now) → world.new ≡ world.old }
 
     // Which counts of faults rose.
     ensures faults { RisesBy result (S.faults source.old, S.faults source.new)
@@ -172,19 +198,44 @@ pub fn run<R: Threads + Wait + Sync, S: Source, K: Sink, D: SharedDisk, G: Gate>
     ensures stands_once { Throughout (D.seen disk.old).files StandsOnce }
     ensures settles { Throughout (D.seen disk.old).files SettlesAll }
 
+    // What holds at the end of every line that was played on three servers.
+    ensures trio_one_history { ThroughoutTrio (D.seen disk.old).files KeepsOneHistory }
+    ensures trio_replies { ThroughoutTrio (D.seen disk.old).files RepliesRightly }
+    ensures trio_declines { OfAllTrioLines (D.seen disk.old).files DeclinesTrio }
+    ensures trio_in_time { OfAllTrioLines (D.seen disk.old).files CommitsInTime }
+    ensures trio_falls { OfAllTrioLines (D.seen disk.old).files FallsTrio }
+    ensures trio_fells { OfAllTrioLines (D.seen disk.old).files FaultsFellTrio }
+    ensures trio_calls { OfAllTrioLinesOf (D.seen disk.old).files
+        (TrioCallsCounted (D.seen disk.old).files) }
+    ensures trio_readers { ThroughoutTrio (D.seen disk.old).files ReadsRightly }
+    ensures trio_callbacks { ThroughoutTrio (D.seen disk.old).files CallsBack }
+    ensures trio_tells_once { ThroughoutTrio (D.seen disk.old).files TellsOnce }
+    ensures trio_posts { ThroughoutTrio (D.seen disk.old).files PrintsPosts }
+    ensures trio_files { ThroughoutTrio (D.seen disk.old).files KeepsFiles }
+    ensures trio_records { ThroughoutTrio (D.seen disk.old).files KeepsRecords }
+    ensures trio_stands_once { ThroughoutTrio (D.seen disk.old).files StandsOnce }
+    ensures trio_settles { ThroughoutTrio (D.seen disk.old).files SettlesTrio }
+
     // What holds where a fault of the disk ended the run in an event.
     ensures fault_keeps { KeepsAtFault (D.seen disk.old).files
         (D.seen disk.new) world.new }
+    ensures trio_fault_keeps { (KeepsTrioAtFault trio_game) (D.seen disk.old).files
+        (D.seen disk.new) trio.new }
 
     // What holds where memory ran out in an event.
     ensures want_tells { TellsAtWant (D.seen disk.old).files
         (D.seen disk.new) world.new }
+    ensures trio_want_tells { (TellsTrioAtWant trio_game) (D.seen disk.old).files
+        (D.seen disk.new) trio.new }
 
     // Where nothing fails, a script is played, a script is checked, an expression is taken apart, a script is made, a large run
     // is played, and records are told: only memory may be missing.
     ensures completes { CanRun (word_bytes words.now) (S.left source.old) (D.seen disk.old).files
         → NoneRises (S.faults source.old, S.faults source.new) (K.faults out.old, K.faults out.new)
         ((D.seen disk.old).faults, (D.seen disk.new).faults) → IsDoneOrMemory result }
+    ensures serves { CanServeBy (word_bytes words.now) (S.left source.old) (D.seen disk.old).files
+        → NoneRises (S.faults source.old, S.faults source.new) (K.faults out.old, K.faults out.new)
+        ((D.seen disk.old).faults, (D.seen disk.new).faults) → IsServedOrMemory result }
     ensures checks { CanCheck (word_bytes words.now) (S.left source.old)
         → ¬ HasRisen (S.faults source.old, S.faults source.new)
         → ¬ HasRisen (K.faults out.old, K.faults out.new) → IsDoneOrMemory result }
@@ -200,5 +251,6 @@ pub fn run<R: Threads + Wait + Sync, S: Source, K: Sink, D: SharedDisk, G: Gate>
         → ¬ HasRisen (K.faults out.old, K.faults out.new) → IsDoneOrMemory result }
 {
     law_of_runs();
-    run_words(rt, alloc, words, source, out, disk, gate, world)
+    law_of_trio_runs();
+    run_words(rt, alloc, words, source, out, disk, gate, world, trio)
 }

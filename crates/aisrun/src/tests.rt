@@ -15,6 +15,7 @@ use failing_servers::FAILING;
 use io_edge::{MemSink, MemSource, Sink, SinkAnswer};
 use rows::PLAYED;
 use short_disk::ShortDisk;
+use spare_server::TrioWorld;
 use std::alloc::Global;
 use std::process::Abort;
 use std::sync::Wait;
@@ -26,7 +27,7 @@ const WRITE: &str =
     "log 1 init A.2.1\nlog 1 open system\nlog 1 write system inv=0 flags=0 gen sev=6 class=0.0.0 user=\"u\" body=\"a\"\nsettle\n";
 
 const USAGE: &str =
-    "usage: aisrun run, check, expr KIND TEXT, gen COUNT SEED, load COUNT SEED, scan KIND TEXT SIZE or find KIND TEXT SIZE TOKEN WORD\n";
+    "usage: aisrun run, check, expr KIND TEXT, gen COUNT SEED, load COUNT SEED, scan KIND TEXT SIZE, find KIND TEXT SIZE TOKEN WORD or trio\n";
 
 /// Words that are none of the program's, one row a line.
 const OTHER_WORDS: &str = "\
@@ -44,6 +45,7 @@ const OTHER_WORDS: &str = "\
     expr,System,a\n\
     expr,system\n\
     check,check\n\
+    trio,trio\n\
     expr,alarm,a,b\n\
     gen\n\
     gen,1\n\
@@ -89,6 +91,10 @@ const ENDS: &str = "\
     run|settle\narm a 5\n|0|;\
     run|disarm|0|;\
     run|restart b\ntime 5\n|1|script line 3: time\n;\
+    run|crash c\n|1|script line 2: grammar\n;\
+    trio|time 5x\n|1|script line 2: grammar\n;\
+    trio|crash a\ncrash b\n|0|server a down\nserver b active\nserver b down\nserver c active\n;\
+    trio|servers\n|0|server a active\nserver b standby\nserver c standby\n;\
     run|restart b\n|0|refused restart b a=active b=standby net=0 link=0 back=0 hand=-\n;\
     expr,system,@Cr @Cb||0|ok 3\n;\
     expr,notification,||0|ok 0\n;\
@@ -125,7 +131,7 @@ const SCANS: &str = "\
 /// One digit each for the failing call of the source, of the sink and of the disk's reading ones, whether there is a file, and the
 /// exit status; then the word and the text, one row a line. The disk's first changing call fails.
 const REASONS: &str = "\
-    10002|run,run|usage: aisrun run, check, expr KIND TEXT, gen COUNT SEED, load COUNT SEED, scan KIND TEXT SIZE or find KIND TEXT SIZE TOKEN WORD\n;\
+    10002|run,run|usage: aisrun run, check, expr KIND TEXT, gen COUNT SEED, load COUNT SEED, scan KIND TEXT SIZE, find KIND TEXT SIZE TOKEN WORD or trio\n;\
     10014|run|read fault\n;\
     00017|run|root not empty: x\n;\
     00006|run|disk fault\n;\
@@ -223,6 +229,7 @@ fn play<R: Abort + Threads + Wait + Sync, D: SharedDisk>(
 ) -> u8 {
     let list = parted(rt, alloc, words);
     let mut world = World::empty(alloc);
+    let mut trio = TrioWorld::empty(alloc);
     // A run begins on a disk that is not armed.
     disk.disarm();
     let status = run(
@@ -234,8 +241,10 @@ fn play<R: Abort + Threads + Wait + Sync, D: SharedDisk>(
         disk,
         &OpenGate,
         &mut world,
+        &mut trio,
     );
     world.end();
+    trio.end();
     drop(list);
     status.code()
 }

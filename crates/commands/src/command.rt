@@ -29,6 +29,8 @@ pub enum Command {
     Run,
     /// Tell whether the source gives a script, and of how many lines.
     Check,
+    /// Run the script for three servers that the source gives.
+    Trio,
     /// Tell whether the third word is a format expression for streams of a kind, and of how many pieces.
     Expr { kind: StreamKind },
     /// Print the script of so many turns, 1 to 100,000, from a seed on.
@@ -46,6 +48,7 @@ fn lone_command(word: &str) -> Option<Command>
     match word {
         "run" => Some(Command::Run),
         "check" => Some(Command::Check),
+        "trio" => Some(Command::Trio),
         _ => None,
     }
 }

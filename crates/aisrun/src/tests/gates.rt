@@ -5,6 +5,7 @@ use callback_dispatch::Gate;
 use cluster_core::World;
 use disk_model::{MemDisk, SharedDisk};
 use io_edge::{MemSink, MemSource};
+use spare_server::TrioWorld;
 use std::alloc::Global;
 use std::process::Abort;
 use std::sync::Wait;
@@ -42,6 +43,7 @@ fn passing<R: Abort + Threads + Wait + Sync>(
     disk.disarm();
     let words = parted(rt, alloc, "run");
     let mut world = World::empty(alloc);
+    let mut trio = TrioWorld::empty(alloc);
     let gate = Noting {
         passed: AtomicU32::new(0),
     };
@@ -54,8 +56,10 @@ fn passing<R: Abort + Threads + Wait + Sync>(
         &mut disk,
         &gate,
         &mut world,
+        &mut trio,
     );
     world.end();
+    trio.end();
     assert!(rt; status.code() == 0);
     gate.passed.load(SeqCst)
 }

@@ -2,7 +2,7 @@
 //! a stream is made. Whichever call it is, the standby does the deeds again, and the files are those
 //! of a run without a stop: on a disk in memory, whose torn ranges hold other bytes, and on folders.
 use super::{ends_on, prints_over};
-use disk_model::DirDisk;
+use disk_model::{DirDisk, Root};
 use std::fs;
 use std::process::Abort;
 use std::rt::Files;
@@ -293,7 +293,7 @@ where
     let alloc = rt.alloc();
     ends_on(rt, alloc, &[], script.as_str(), 0, text);
     let files = rt.clone().ok().expect(rt, "a runtime");
-    let mut disk = DirDisk::new(files);
+    let mut disk = DirDisk::new(files, Root::Logs);
     prints_over(rt, alloc, &mut disk, script.into_bytes(), text);
     drop(disk);
     fs::remove_dir_all(rt, ROOT).ok().expect(rt, "the folder");

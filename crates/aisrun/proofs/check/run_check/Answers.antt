@@ -5,8 +5,8 @@ use Rattle.played_runs.proofs.CountSteps.{on-same}
 use Rattle.played_runs.proofs.EndingSteps.{end-written}
 use Rattle.aisrun.specs.Checking.{CheckEnds, Judged}
 use Rattle.script_inputs.specs.Inputs.{input_limit, ReadsWhole}
-use Rattle.aisrun.proofs.EndingSteps.{judged-check, ok-ends}
 use Rattle.script_inputs.proofs.Reading.{unread-written}
+use Rattle.aisrun.proofs.EndingSteps.{judged-check, ok-ends}
 use Rattle.aisrun.proofs.check.run_check.Goals as goal
 
 pub judge-requires : goal.judge-requires
