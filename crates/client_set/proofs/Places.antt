@@ -1,6 +1,8 @@
 -- What a search in a rising list of numbers finds.
-use Rattle.std.proofs.Common.{◌≡◌, ℕ, zero, suc, ◌<◌, ◌≤◌, ◌==◌, nat_lt, Bool, true, false, cond, ◌||◌, List, [], ◌∷◌, length, get_or, refl, ap, sym, subst, ◌∙◌, arith}
-use Rattle.std.specs.Prelude.{Result, Ok, Err, MatchResult, insert, remove}
+use Rattle.std.proofs.Common.{◌≡◌, ℕ, zero, suc, ◌<◌, ◌≤◌, ◌==◌, nat_lt, Bool, true, false, cond, ◌||◌, List, [], ◌∷◌, length, get_or, slice_get, ◌-◌, refl, ap, sym, subst, ◌∙◌, arith}
+use Rattle.std.specs.Prelude.{Result, Ok, Err, Some, MatchResult, insert, remove}
+use Rattle.std.proofs.lemmas.Bool.{ltb-true}
+use Rattle.std.proofs.lemmas.Option.{get_or_from_slice_get}
 use Rattle.std.proofs.lemmas.Bool.Decides.{nat_tests}
 use Rattle.client_set.specs.Members.{has}
 use Rattle.client_set.specs.Rising.{put, without, ComesFirst, IsRising}
@@ -114,6 +116,18 @@ non_decreasing (x ∷ xs) rising zero (suc j) order within =
     grind (arith, nat_tests)
 non_decreasing (x ∷ xs) rising (suc i) zero order within = absurd (omega arith)
 non_decreasing (x ∷ xs) rising (suc i) (suc j) order within = non_decreasing xs rising.1 i j (omega arith) (omega arith)
+
+-- a number above the last one belongs behind all
+pub belongs_last : (xs : List ℕ) (x last : ℕ) → IsRising nat_lt xs → Some last ≡ slice_get xs (length xs - 1) → nat_lt last x ≡ true → IsPlaceFor xs x (length xs)
+belongs_last [] x last rising is less = record { within = omega arith; absent = refl; put = refl; taken = refl }
+belongs_last (y ∷ ys) x last rising is less =
+    let xs = y ∷ ys in
+    let end = length xs - 1 in
+    let below : last < x = ltb-true last x less in
+    let same : get_or xs end 0 ≡ last = get_or_from_slice_get xs end last 0 (sym is) in
+    is_place_for xs x (length xs) rising (omega arith)
+    (λ k within. let low = non_decreasing xs rising k end (omega arith) (omega arith) in omega arith)
+    (λ k from within. absurd (omega arith))
 
 -- what a search found, in the words of the set
 pub found : (xs : List ℕ) (x : ℕ) (r : Result ℕ ℕ) → IsRising nat_lt xs → MatchResult r (λ i. (i < length xs) × (get_or xs i 0 ≡ x)) (λ i. (i ≤ length xs) × ((k : ℕ) → k < i → get_or xs k 0 < x) × ((k : ℕ) → i ≤ k → k < length xs → x < get_or xs k 0)) → MatchResult r (IsPlaceOf xs x) (IsPlaceFor xs x)

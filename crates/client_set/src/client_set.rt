@@ -1,5 +1,5 @@
 //! A set of clients.
-ghost use Rattle.std.specs.Prelude.{◌≡◌, ℕ, nat_lt, ◌==◌, [], MatchResult, OnOk, OnErr};
+ghost use Rattle.std.specs.Prelude.{◌≡◌, ℕ, length, nat_lt, ◌==◌, [], IsTrue, MatchResult, OnOk, OnErr};
 ghost use Rattle.client_set.specs.Members.{has};
 ghost use Rattle.client_set.specs.Rising.{put, without, IsRising};
 ghost use Rattle.client_set.specs.Searching.{IsPlaceOf, IsPlaceFor};
@@ -25,11 +25,30 @@ impl Model for ClientSet {
     ghost invariant = { λ set. IsRising nat_lt set.clients.items };
 }
 
-/// The place of a client in a rising list, or the one where it belongs.
+/// Whether all clients of a rising list are below this one.
+fn are_below(clients: &[u16], client: u16) -> bool
+    requires { IsRising nat_lt clients.now }
+    ensures { IsTrue result → IsPlaceFor clients.now client (length clients.now) }
+{
+    match clients.last() {
+        None => true,
+        Some(last) => *last < client,
+    }
+}
+
+/// The place of a client in a rising list, or the one where it belongs. It is found at once where clients are 1, 2, 3 and so on,
+/// and for one above all; else by halving.
 fn place_of(clients: &[u16], client: u16) -> Result<usize, usize>
     requires { IsRising nat_lt clients.now }
     ensures { MatchResult result (IsPlaceOf clients.now client) (IsPlaceFor clients.now client) }
 {
+    let place = usize::from(client).saturating_sub(1);
+    if place < clients.len() && clients[place] == client {
+        return Ok(place);
+    }
+    if are_below(clients, client) {
+        return Err(clients.len());
+    }
     clients.binary_search(&client)
 }
 
