@@ -73,12 +73,10 @@ module _ (n : ℕ) where
   range-by setup state (Ready entry) empty good = cc
 
   pub holds-range : (old : Cluster (Group n)) → HasStateOf (group_kit n) IsIdle old → HoldsInRange old.servers.active.replica
-  holds-range old has = record {
-    setup = has.setup;
-    past = has.state.world.core.answered;
-    rests = rests-in has.setup has.state old has.shows has.so;
-    range = range-by has.setup has.state has.state.world.core.hand has.so has.good;
-  }
+  holds-range old has = λ items held value.
+      subst (λ (these : List Message). AllByRecursion MessageInRange these)
+      (sym (held has.setup has.state.world.core.answered (rests-in has.setup has.state old has.shows has.so)))
+      (range-by has.setup has.state has.state.world.core.hand has.so has.good)
 
   push-steady : (setup : Setup) (state : State Peers) → IsSteady (plain_of setup) (IsGroup n) state → state.world.core.hand ≡ Empty → IsSteady (plain_of setup) (IsGroup n) (pushed (group_kit n) setup state).state
   push-steady setup state steady empty =

@@ -1,5 +1,7 @@
 -- What a push comes to, and what it leaves where memory runs out.
 use Rattle.std.proofs.Common.{◌≡◌, ℕ, inl, inr, Bool, None, List, [], ◌∷◌, ◌++◌, take, refl, ap, sym, ◌∙◌, subst}
+use Rattle.std.specs.List.{AllByRecursion}
+use Rattle.wire.specs.MessageSpelling.{MessageInRange}
 use Rattle.plain_service.specs.Setups.{Setup}
 use Rattle.service_laws.specs.PlainOf.{plain_of}
 use Rattle.service_laws.proofs.ServiceLaws.{is_plain}
@@ -70,7 +72,8 @@ module _ {P S : Type 0} (kit : Kit P S) (laws : IsKit kit) where
         let range : AreInRange past = subst (λ (hand : Hand). AreInRange (accepted_by past hand)) empty good.range in
         let N : Hand → Type 0 = λ hand. (client : ℕ) → IsNumbered (calls_in client (accepted_by past hand)) in
         let numbered : N Empty = subst N empty good.steady.sound.facts.legal.numbered in
-        record { setup = setup; past = past; rests = rests; range = held-range setup past (answered-history kit laws setup state good) range numbered }
+        let spelled = held-range setup past (answered-history kit laws setup state good) range numbered in
+        λ items held value. subst (λ (these : List Message). AllByRecursion MessageInRange these) (sym (held setup past rests)) spelled
 
     -- **items are pushed**
     pub pushes : (net : List (List ℕ)) (items : List Message) (before after : List (List ℕ)) → IsHeldBy node.replica items → PostsAll items old.net net before after → Happened kit setup (pushed kit setup state) (record old { net = net }) before after × (items ≡ (plain_of setup).held past)

@@ -9,6 +9,7 @@ use Rattle.cluster_facts.specs.Types.{Entry}
 use Rattle.cluster_clients.specs.Posted.{PostsSome}
 use Rattle.mirror.specs.declared.heard.Heard.{Heard}
 use Rattle.mirror.specs.declared.state.NodeState.{NodeState as Node}
+use Rattle.mirror.specs.ByValue.{items_pushed}
 use Rattle.mirror.specs.Replicas.{ReplicaState, HasRoom, at_rest}
 use Rattle.mirror.specs.Pairing.{IsHeard, IsReceived}
 use Rattle.lead_server.specs.Told.{IsTold}
@@ -45,12 +46,10 @@ abbrev pub IsHeldBy : ReplicaState → List Message → Type 0
 IsHeldBy replica items =
     (setup : Setup) (past : List Entry) → replica ≡ at_rest setup past → items ≡ (plain_of setup).held past
 
--- and they can be spelled
-pub record HoldsInRange (replica : ReplicaState) : Type 0 where
-  pub setup : Setup
-  pub past : List Entry
-  pub rests : replica ≡ at_rest setup past
-  pub range : AllByRecursion MessageInRange ((plain_of setup).held past)
+-- whatever items it holds, by a history that it stands for and by the value of its service, can be spelled
+abbrev pub HoldsInRange : ReplicaState → Type 0
+HoldsInRange replica =
+    (items : List Message) → IsHeldBy replica items → items ≡ items_pushed replica.service → AllByRecursion MessageInRange items
 
 -- memory was wanting: some of them were posted, from the first on, or none
 abbrev pub PushesPartly : ReplicaState → List (List ℕ) → List (List ℕ) → Type 0

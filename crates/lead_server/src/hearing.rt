@@ -1,6 +1,7 @@
 //! What reaches the active server, and what it pushes.
 ghost use Rattle.std.specs.Prelude.{◌≡◌, None, ℤ, IfOk, OnOk, OnErr};
 ghost use Rattle.mirror.specs.declared.heard.Role.TheVariants.{Active};
+ghost use Rattle.mirror.specs.ByValue.{items_pushed};
 ghost use Rattle.mirror.specs.Hearing.{CanHear};
 ghost use Rattle.mirror.specs.Pairing.{CanReceive};
 ghost use Rattle.cluster_clients.specs.Posted.{PostsAll, PostsSome};
@@ -67,8 +68,8 @@ pub fn confirm(
     }
 }
 
-/// Posts all items without receipt, by client, key and number, and answers with them. Nothing may be in hand. Where memory runs out some were
-/// posted, from the first on.
+/// Posts all items without receipt, by client, key and number, and answers with them: those of a history that the server stands for, and those
+/// of the value of its service. Nothing may be in hand. Where memory runs out some were posted, from the first on.
 pub fn push(
     alloc: Global,
     active: &Node,
@@ -79,6 +80,7 @@ pub fn push(
     requires idle { active.now.replica.owed ≡ None }
     requires range { HoldsInRange active.now.replica }
     ensures held { IfOk result (λ items. IsHeldBy active.now.replica items) }
+    ensures value { IfOk result (λ items. items ≡ items_pushed active.now.replica.service) }
     ensures ok { IfOk result (λ items. PostsAll items net.old net.new lines.old.items
         lines.new.items) }
     ensures err { OnErr result (PushesPartly active.now.replica net.old net.new) }
