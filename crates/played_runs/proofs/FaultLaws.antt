@@ -95,7 +95,7 @@ module _ (setup : Setup) (start world : World) (told : List Told) (sound : IsSou
 -- Records.
 
 -- what was answered as stored before the last entry is kept in files between
-records-kept : (setup : Setup) → CanBegin setup → (now : ℤ) (past : List Entry) (files : Files) → IsLegal (plain_of setup) now past → AreInRange past → Between service_disk (storage_of setup) past files → RecordsKept setup past files
+pub records-kept : (setup : Setup) → CanBegin setup → (now : ℤ) (past : List Entry) (files : Files) → IsLegal (plain_of setup) now past → AreInRange past → Between service_disk (storage_of setup) past files → RecordsKept setup past files
 records-kept setup can now [] files legal range between = tt
 records-kept setup can now (entry ∷ past) files legal range between = λ client number call reply dealt stored_is.
     let plain = plain_of setup in
@@ -110,7 +110,7 @@ left-between setup past None left P leaves each = subst (λ (o : Option Files). 
 left-between setup past (Some held) left P leaves each =
     subst (λ (o : Option Files). IfSome o (λ files. P files)) (sym leaves.1) (each leaves.0 leaves.2)
 
-if-same : (left : Option Files) (files : Files) (P : Files → Type 0) → IfSome left (λ one. one ≡ files) → P files → IfSome left (λ one. P one)
+pub if-same : (left : Option Files) (files : Files) (P : Files → Type 0) → IfSome left (λ one. one ≡ files) → P files → IfSome left (λ one. P one)
 if-same None files P same holds = tt
 if-same (Some one) files P same holds = subst P (sym same) holds
 

@@ -37,11 +37,11 @@ use Rattle.played_runs.proofs.PlayLaws.{answered-range, played-files}
 use Rattle.played_runs.proofs.TimeLaws.{line-now}
 use Rattle.played_runs.proofs.WritingSteps.{written-behind}
 
-text-append : (later earlier : List Told) → text_of (later ++ earlier) ≡ text_of earlier ++ text_of later
+pub text-append : (later earlier : List Told) → text_of (later ++ earlier) ≡ text_of earlier ++ text_of later
 text-append later earlier =
     ap joined_lines (printed-append later earlier) ∙ flat_map-append (λ (line : List ℕ). line) (printed earlier) (printed later)
 
-reverse-push : {L : Type 0} (lines : List L) (next : L) → reverse (lines ++ next ∷ []) ≡ next ∷ reverse lines
+pub reverse-push : {L : Type 0} (lines : List L) (next : L) → reverse (lines ++ next ∷ []) ≡ next ∷ reverse lines
 reverse-push lines next = reverse-append lines (next ∷ [])
 
 pub told-same : (held left : Option Files) (files : Files) → left ≡ option_map (λ _. files) held → IfSome left (λ f. f ≡ files)

@@ -100,7 +100,7 @@ dispatched-due : (setup : Setup) (client : ℕ) (world : World) → IsSound (pla
 dispatched-due setup client world sound =
     ap (λ (status : Option Status). refused_as client status) (dispatch-refused (world.agents client) (sent_by client (messages_in world.net)) _ (sound.facts.clients client).sends)
 
-refused-due : (setup : Setup) (next : Option Line) (told : List Told) (world : World) → IsSound (plain_of setup) world → KeepsWaiting world told → refused_of (kind_by next) world ≡ refusals_due next told (messages_in world.net)
+pub refused-due : (setup : Setup) (next : Option Line) (told : List Told) (world : World) → IsSound (plain_of setup) world → KeepsWaiting world told → refused_of (kind_by next) world ≡ refusals_due next told (messages_in world.net)
 refused-due setup (Some (line.Log client asked)) told world sound waits = asked-due setup client asked told world sound waits
 refused-due setup (Some (line.Ntf client asked)) told world sound waits = asked-due setup client asked told world sound waits
 refused-due setup (Some (line.DispatchOne client)) told world sound waits = dispatched-due setup client world sound

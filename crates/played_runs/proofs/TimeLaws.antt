@@ -29,7 +29,7 @@ use Rattle.played_runs.specs.Steps.{time_behind}
 use Rattle.played_runs.proofs.PlayLaws.{each-played, played-says}
 
 -- the time in force behind a line
-time-by : (now : ℤ) (next : Option Line) → time_by now (kind_by next) ≡ time_behind now next
+pub time-by : (now : ℤ) (next : Option Line) → time_by now (kind_by next) ≡ time_behind now next
 time-by now (Some (line.Time later)) = refl
 time-by now _ = refl
 

@@ -194,7 +194,7 @@ waits-by-kind plain = record {
   printed = passes-without;
 }
 
-waits-behind : (kind : Kind) (old new : World) (before told : List Told) → Waits kind old new told → AreBelow old before → KeepsWaiting old before → KeepsWaiting new (told ++ before)
+pub waits-behind : (kind : Kind) (old new : World) (before told : List Told) → Waits kind old new told → AreBelow old before → KeepsWaiting old before → KeepsWaiting new (told ++ before)
 waits-behind (Asks client asked) old new before told goes below waits = goes before below waits
 waits-behind _ old new before told goes below waits = waits-on old new before told waits goes
 
