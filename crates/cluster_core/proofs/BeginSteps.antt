@@ -30,12 +30,12 @@ use Rattle.cluster_clients.specs.declared.answer.EventAnswer.{EventAnswer}
 use Rattle.cluster_core.specs.Game.{world_game}
 use Rattle.cluster_core.specs.declared.world.World.{World}
 use Rattle.cluster_core.specs.Worlds.{Shows, IsGood, LeavesFiles, pair_start}
-use Rattle.cluster_core.specs.Beginning.{Begins}
+use Rattle.cluster_lines.specs.Beginning.{Begins}
 use Rattle.played_runs.specs.Views.{HoldsNone, LackedDeeds, behind_deeds, counters_of}
 use Rattle.played_runs.specs.Games.{Begun, LeavesOpening}
 use Rattle.played_runs.proofs.CountSteps.{other-stood}
 use Rattle.cluster_core.specs.Starting.{active_at, wells_of, world_of, broken_by, StartsBoth, StartsWorld}
-use Rattle.cluster_core.proofs.BeginSpelled.{spelled-begins}
+use Rattle.cluster_lines.proofs.BeginSpelled.{spelled-begins}
 
 good-start : (setup : Setup) (places : ℕ) → CanBegin setup → IsGood setup (pair_start setup.start places)
 good-start setup places begins = record {

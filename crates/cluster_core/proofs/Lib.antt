@@ -1,4 +1,3 @@
 pub mod TwoSeats
 mod EventSteps
 pub mod BeginSteps
-pub mod BeginSpelled

@@ -8,7 +8,7 @@ use Rattle.group_servers.specs.declared.group.Group.{Group}
 use Rattle.group_servers.specs.GroupKit.{group_kit}
 use Rattle.played_runs.specs.Games.{Game}
 use Rattle.cluster_core.specs.declared.world.World.{World}
-use Rattle.cluster_core.specs.Beginning.{Begins}
+use Rattle.cluster_lines.specs.Beginning.{Begins}
 use Rattle.cluster_core.specs.Broken.{EventEnded}
 use Rattle.cluster_core.specs.Playing.{IsEventLine, LineDone}
 use Rattle.cluster_core.specs.Worlds.{empty_world, pair_start, parts_of}

@@ -2,7 +2,6 @@ pub mod Worlds
 pub mod Broken
 pub mod Playing
 pub mod Parts
-pub mod Beginning
 pub mod Starting
 pub mod Game
 pub mod GameLaws

@@ -7,7 +7,7 @@ ghost use Rattle.service_core.specs.Beginning.{BeginsAs, CanBeginAs};
 ghost use Rattle.cluster_core.specs.Game.{world_game};
 ghost use Rattle.cluster_core.specs.Worlds.{empty_world};
 ghost use Rattle.cluster_clients.specs.Answers.{RisesAtFault};
-ghost use Rattle.cluster_core.specs.Beginning.{Begins};
+ghost use Rattle.cluster_lines.specs.Beginning.{Begins};
 ghost use Rattle.played_runs.specs.Views.{HoldsNone};
 ghost use Rattle.played_runs.specs.Games.{Begun, LeavesOpening};
 ghost use Rattle.group_servers.specs.GroupNodes.{standby_by};

@@ -2,6 +2,7 @@ pub mod KeepSteps
 pub mod LineSteps
 pub mod LineBroken
 pub mod LineSpelled
+pub mod BeginSpelled
 pub mod OwnLines
 mod ShowSteps
 mod WildLines

@@ -1,5 +1,6 @@
 pub mod Shelves
 pub mod Lines
+pub mod Beginning
 pub mod Answers
 pub mod Showing
 pub mod Playing

@@ -1,40 +1,18 @@
 -- What a cluster line that can stand in a script gives.
-use Rattle.std.proofs.Common.{◌≡◌, ℕ, List, [], ◌∷◌, refl, ap, sym, subst, ◌∙◌}
+use Rattle.std.proofs.Common.{◌≡◌, ℕ, List, [], ◌∷◌, ap, sym, subst, ◌∙◌}
 use Rattle.std.specs.Prelude.{ℤ}
 use Rattle.script_lines.specs.declared.line.Line.{Line}
 use Rattle.script_lines.specs.declared.line.Line.TheVariants.{Cluster}
 use Rattle.script_lines.specs.declared.line.WellOptions.{WellOptions}
 use Rattle.script_language.specs.Lines.{Spells}
 use Rattle.stream_config.specs.declared.attrs.StreamAttrs.{StreamAttrs}
-use Rattle.plain_service.specs.Setups.{Setup, CanBegin}
+use Rattle.plain_service.specs.Setups.{Setup}
 use Rattle.service_core.specs.Beginning.{BeginsAs}
-use Rattle.cluster_lines.proofs.LineSpelled.{CanOpen, spelled-fits}
-use Rattle.command_journal.specs.Beginning.{Begins}
+use Rattle.cluster_lines.specs.Beginning.{Begins}
+use Rattle.cluster_lines.proofs.BeginSpelled.{spelled-begins}
 use Rattle.command_journal.specs.Starting.{wells_of}
 
-opens-setup : (one : Line) (setup : Setup) (places : ℕ) → CanOpen one → Begins one setup places → CanBegin setup
-opens-setup (Cluster start queue callbacks alarm ntf sys) setup places (sound, moment, capacity) begins =
-    subst CanBegin (sym begins.0)
-    (record {
-      start = moment;
-      capacity = capacity;
-      streams = record {
-        alarm = sound.0;
-        notification = sound.1;
-        system = sound.2;
-        first_apart = refl;
-        second_apart = refl;
-        third_apart = refl;
-      };
-    })
-opens-setup _ setup places can begins = absurd begins
-
--- **a cluster line of a script tells a setup with which a service can begin**
-pub spelled-begins : (one : Line) (raw : List ℕ) (setup : Setup) (places : ℕ) → Spells one raw → Begins one setup places → CanBegin setup
-spelled-begins one raw setup places spelled begins =
-    opens-setup one setup places (spelled-fits one raw spelled).1 begins
-
--- and what that begins as
+-- what that begins as
 pub begins-as : (one : Line) (start : ℤ) (queue callbacks : ℕ) (alarm ntf sys : WellOptions) (wells : List StreamAttrs) → one ≡ Cluster start queue callbacks alarm ntf sys → wells ≡ wells_of alarm ntf sys
     → (raw : List ℕ) → Spells one raw → (setup : Setup) (places : ℕ) → Begins one setup places → BeginsAs setup start queue wells
 begins-as one start queue callbacks alarm ntf sys wells is attributes raw spelled setup places begins =

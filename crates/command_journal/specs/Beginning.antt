@@ -1,12 +1,8 @@
--- Words of public clauses: what a cluster line begins, and what that leaves of both disks.
+-- Words of public clauses: what a cluster line leaves of both disks.
 use Rattle.std.specs.Prelude.{◌≡◌, ◌⊎◌, ℕ, suc, length, List, [], Result, Ok, Err}
-use Rattle.ais_values.specs.declared.kind.StreamKind.TheVariants.{Alarm, Notification, System}
 use Rattle.disk_model.specs.Counts.{Counters, passed}
 use Rattle.disk_model.specs.DeviceCalls.{DeviceCall, FailsAfter}
 use Rattle.disk_model.specs.Seen.{DiskSeen}
-use Rattle.script_lines.specs.declared.line.Line.{Line}
-use Rattle.script_lines.specs.declared.line.Line.TheVariants.{Cluster}
-use Rattle.script_language.specs.Streams.{well_attrs}
 use Rattle.wire.specs.declared.message.Message.TheVariants.{Snapshot}
 use Rattle.wire.specs.MessageSpelling.{message_text}
 use Rattle.plain_service.specs.Setups.{Setup}
@@ -20,20 +16,6 @@ use Rattle.command_journal.specs.declared.answer.EventAnswer.{EventAnswer}
 use Rattle.command_journal.specs.declared.answer.EventAnswer.TheVariants.{Memory, DiskFault, Journal}
 use Rattle.command_journal.specs.declared.world.ColdWorld.{ColdWorld}
 use Rattle.command_journal.specs.Worlds.{IsGood, Shows}
-
--- a cluster line tells this setup, and how many callbacks each agent's queue holds; no other line tells one
-abbrev pub Begins : Line → Setup → ℕ → Type 0
-Begins (Cluster start queue callbacks alarm ntf sys) setup places =
-    (setup
-    ≡ record {
-      start = start;
-      capacity = queue;
-      alarm = well_attrs Alarm alarm;
-      notification = well_attrs Notification ntf;
-      system = well_attrs System sys;
-    })
-    × (places ≡ callbacks)
-Begins _ setup places = ⊥
 
 abbrev pub start_of : Setup → ℕ → State Alone
 start_of setup places = cold_begun setup.start places

@@ -20,9 +20,9 @@ use Rattle.trio_lines.specs.Lines.{SpellsTrio}
 use Rattle.group_cluster.proofs.Running.{start-steady}
 use Rattle.group_servers.specs.GroupNodes.{standby_by}
 use Rattle.mirror.specs.declared.state.NodeState.{NodeState as Node}
-use Rattle.cluster_core.specs.Beginning.{Begins}
+use Rattle.cluster_lines.specs.Beginning.{Begins}
 use Rattle.cluster_core.specs.Starting.{active_at}
-use Rattle.cluster_core.proofs.BeginSpelled.{spelled-begins}
+use Rattle.cluster_lines.proofs.BeginSpelled.{spelled-begins}
 use Rattle.cluster_core.proofs.BeginSteps.{files-start, passed-unarmed}
 use Rattle.played_runs.specs.Views.{HoldsNone}
 use Rattle.played_runs.specs.Games.{Begun}

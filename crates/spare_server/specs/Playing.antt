@@ -14,7 +14,7 @@ use Rattle.group_cluster.specs.Seats.{Peers}
 use Rattle.cluster_rounds.specs.Kits.{device_by}
 use Rattle.group_servers.specs.GroupCounts.{CountsLine, FellIn}
 use Rattle.cluster_lines.specs.Shelves.{shelf_of}
-use Rattle.cluster_core.specs.Beginning.{Begins}
+use Rattle.cluster_lines.specs.Beginning.{Begins}
 use Rattle.cluster_core.specs.Playing.{IsEventLine, calls_by}
 use Rattle.spare_server.specs.Happening.{TrioStep, group_line}
 

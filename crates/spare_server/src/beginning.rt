@@ -5,7 +5,7 @@ ghost use Rattle.script_language.specs.Lines.{Spells};
 ghost use Rattle.trio_lines.specs.Lines.{SpellsTrio};
 ghost use Rattle.service_core.specs.Beginning.{BeginsAs, CanBeginAs};
 ghost use Rattle.cluster_clients.specs.Answers.{RisesAtFault};
-ghost use Rattle.cluster_core.specs.Beginning.{Begins};
+ghost use Rattle.cluster_lines.specs.Beginning.{Begins};
 ghost use Rattle.played_runs.specs.Views.{HoldsNone};
 ghost use Rattle.played_runs.specs.Games.{Begun, LeavesOpening};
 ghost use Rattle.spare_server.specs.Game.{trio_game};

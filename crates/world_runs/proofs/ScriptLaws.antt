@@ -7,7 +7,7 @@ use Rattle.script_lines.specs.declared.line.Line.TheVariants as line
 use Rattle.script_lines.specs.declared.answer.ScriptWhy.TheVariants as why
 use Rattle.script_language.specs.Scripts.{misplaced, time_after}
 use Rattle.plain_service.specs.Setups.{Setup}
-use Rattle.cluster_core.specs.Beginning.{Begins}
+use Rattle.cluster_lines.specs.Beginning.{Begins}
 use Rattle.cluster_core.specs.Game.{world_game}
 use Rattle.cluster_core.specs.Playing.{IsEventLine}
 use Rattle.played_runs.specs.Steps.{time_behind}

@@ -2,7 +2,7 @@ use Rattle.std.proofs.Common.{length, ap, ◌∙◌}
 use Rattle.std.specs.Prelude.{option_map}
 use Rattle.disk_model.specs.DeviceCalls.{all_applied}
 use Rattle.stream_layout.specs.Deeds.{calls_of_all}
-use Rattle.cluster_core.proofs.BeginSpelled.{spelled-begins}
+use Rattle.cluster_lines.proofs.BeginSpelled.{spelled-begins}
 use Rattle.cluster_core.proofs.BeginSteps.{begun, begun-counts, start-broken, unbegun-stands}
 use Rattle.cluster_core.proofs.world.World.begin.Goals as goal
 

@@ -6,7 +6,7 @@ use Rattle.cluster_facts.specs.History.{Empty}
 use Rattle.cold_servers.specs.ColdNodes.{active_by}
 use Rattle.command_journal.specs.Starting.{world_of}
 use Rattle.command_journal.specs.Worlds.{both}
-use Rattle.command_journal.proofs.BeginSpelled.{spelled-begins}
+use Rattle.cluster_lines.proofs.BeginSpelled.{spelled-begins}
 use Rattle.command_journal.proofs.BeginSteps.{begun, first-in-range, performs-done}
 use Rattle.command_journal.proofs.world.ColdWorld.begin.Goals as goal
 

@@ -4,7 +4,7 @@ use Rattle.script_lines.specs.declared.line.Line.{Line}
 use Rattle.script_lines.specs.declared.line.Line.TheVariants.{Cluster}
 use Rattle.script_language.specs.Lines.{Spells}
 use Rattle.plain_service.specs.Setups.{Setup, CanBegin}
-use Rattle.cluster_core.specs.Beginning.{Begins}
+use Rattle.cluster_lines.specs.Beginning.{Begins}
 use Rattle.cluster_lines.proofs.LineSpelled.{CanOpen, spelled-fits}
 
 opens-setup : (one : Line) (setup : Setup) (places : ℕ) → CanOpen one → Begins one setup places → CanBegin setup
