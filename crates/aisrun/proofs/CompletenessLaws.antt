@@ -25,7 +25,8 @@ use Rattle.aisrun.specs.Completing.{CanCheck, CanParse, CanRun, HoldsRecords, Is
 use Rattle.script_inputs.proofs.Reading.{no-name, not-too-long, read-all}
 use Rattle.aisrun.specs.Endings.{Ends, Fails, HasLines, InLoad, InScript, Reads, ReadsSource, NoScript, NoExpression}
 use Rattle.aisrun.specs.RunSteps.{WordsLack}
-use Rattle.aisrun.specs.Scanning.{CanScan, CannotPart, TakesText}
+use Rattle.text_commands.specs.Scanning.{CannotPart}
+use Rattle.aisrun.specs.Scanning.{CanScan, TakesText}
 
 -- the end that a run comes to, where neither source nor disk fails
 module _ {S K D : Type 0} (run : Around S K D) where

@@ -7,30 +7,20 @@ use Rattle.script_language.specs.Scripts.{IsScriptOf}
 use Rattle.played_runs.specs.declared.ending.End.{End}
 use Rattle.played_runs.specs.declared.ending.Status8.{Status8}
 use Rattle.played_runs.specs.declared.ending.Status8.TheVariants.{Done, ScriptRefused, Usage, Memory, ReadFault, WriteFault, DiskFault, RootNotEmpty, TooLong, JournalRefused, Inseparable}
-use Rattle.played_runs.specs.Counts.{HasStood}
-use Rattle.played_runs.specs.Edges.{Edge, fault_count, IsUntouched, LeavesAll}
-use Rattle.played_runs.specs.Writing.{Reaching, Counting, unasked}
-use Rattle.played_runs.proofs.CountSteps.{on-same, untouched-on, untouched-stood}
+use Rattle.played_runs.specs.Edges.{fault_count, IsUntouched, LeavesAll}
+use Rattle.played_runs.specs.Writing.{Counting}
+use Rattle.played_runs.proofs.CountSteps.{untouched-on, untouched-stood}
 use Rattle.aisrun.specs.Edges.{Around}
 use Rattle.cluster_core.specs.Game.{world_game}
 use Rattle.commands.specs.declared.command.Command.{Command}
 use Rattle.commands.specs.declared.command.Command.TheVariants.{Run, Check, Trio, Expr, Gen, Load, Scan}
 use Rattle.commands.specs.Commands.{command_of, text_of}
-use Rattle.aisrun.specs.Checking.{CheckEnds, Judged, IsScript, IsNoScript, ExprEnds, IsExpression, IsNoExpression}
+use Rattle.text_commands.specs.Checking.{CheckEnds, ExprEnds, IsExpression, IsNoExpression}
 use Rattle.script_inputs.specs.Inputs.{ReadsWhole}
 use Rattle.aisrun.specs.Endings.{HasScript, InScript, LacksBy, Unbegun, Unjudged, RunLacks, Unread as Unknown, Unplayed, Ends, Checked, Parsed, Ran, NoScript, NoExpression}
 use Rattle.aisrun.specs.RunSteps.{InputEnds, InputLacks}
 use Rattle.script_runs.specs.Scripting.{BytesLack}
 use Rattle.aisrun.specs.Usage.{usage_line}
-
--- a script that was judged
-pub judged-check : {S : Type 0} (source : Edge S (List ℕ)) (bytes : List ℕ) → ReadsWhole source bytes → HasStood (fault_count source) → (status : Status8) (text : List ℕ) → Judged bytes status text → Counting (fault_count source) unasked (CheckEnds source) (Some status) text
-judged-check source bytes read stood status text (IsScript is passes) =
-    let C : Status8 → Type 0 = λ one. Counting (fault_count source) unasked (CheckEnds source) (Some one) text in
-    subst C (sym is) ((bytes, read, passes), (stood, on-same 0))
-judged-check source bytes read stood status text (IsNoScript is fails) =
-    let C : Status8 → Type 0 = λ one. Counting (fault_count source) unasked (CheckEnds source) (Some one) text in
-    subst C (sym is) ((bytes, read, fails), (stood, refl))
 
 module _ {S K D : Type 0} (run : Around S K D) where
   -- a script that was read
@@ -108,8 +98,3 @@ lacks-early run (Some (Expr kind)) other all source = (refl, all, source)
 lacks-early run (Some (Gen count seed)) other all source = (refl, all, source)
 lacks-early run (Some (Load count seed)) other all source = Unbegun refl all source
 lacks-early run (Some (Scan query)) other all source = Unjudged refl all source
-
--- the end of a part
-pub ok-ends : {X : Type 0} (end : Result End X) (P : Status8 → List ℕ → Type 0) (E : Reaching) → ((status : Status8) (text : List ℕ) → P status text → E (Some status) text) → IfOk end (λ one. P one.status one.text.items) → IfOk end (λ one. E (Some one.status) one.text.items)
-ok-ends (Ok one) P E ends part = ends one.status one.text.items part
-ok-ends (Err e) P E ends part = tt

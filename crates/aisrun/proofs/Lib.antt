@@ -1,7 +1,6 @@
 mod EndingSteps
 mod LoadEndings
 mod ScanEndings
-mod ScanLaws
 mod StatusLaws
 mod CompletenessLaws
 mod GeneratingLaws

@@ -10,8 +10,9 @@ use Rattle.played_runs.specs.declared.ending.Status8.{Status8}
 use Rattle.played_runs.specs.declared.ending.Status8.TheVariants.{Done, ScriptRefused, Usage, Memory, ReadFault, WriteFault, DiskFault, RootNotEmpty, TooLong, JournalRefused, Inseparable}
 use Rattle.commands.specs.Commands.{command_of, text_of, wanted_of}
 use Rattle.aisrun.specs.Endings.{Ends, LacksBy, NoExpression, RecordsLack, Scanned, Unheld, Unjudged, Untold}
-use Rattle.aisrun.specs.Scanning.{CanScan, IsParted}
-use Rattle.aisrun.specs.ScanSteps.{ScanEnds, ScanLacks, SourceLacks}
+use Rattle.text_commands.specs.Scanning.{IsParted}
+use Rattle.text_commands.specs.ScanSteps.{ScanEnds, ScanLacks, SourceLacks}
+use Rattle.aisrun.specs.Scanning.{CanScan}
 
 module _ {S K D : Type 0} (run : Around S K D) (query : RecordQuery) (asked : command_of run.words ≡ Some (Scan query)) (all : LeavesAll run.stage) where
   -- a text that serves

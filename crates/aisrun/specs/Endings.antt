@@ -1,14 +1,9 @@
 -- Words of public clauses: how a run ends, which is its status with what was read, what is printed, and what it leaves.
-use Rattle.std.specs.Prelude.{◌≡◌, ℕ, true, false, List, [], ◌++◌, length, codes}
+use Rattle.std.specs.Prelude.{◌≡◌, ℕ, true, false, List, []}
 use Rattle.std.specs.Prelude.{Option, Some, None, ◌⊎◌}
 use Rattle.std.specs.Io.KnownBytes.{Appends}
-use Rattle.std.specs.Fmt.{decimal}
 use Rattle.ais_values.specs.declared.kind.StreamKind.{StreamKind}
 use Rattle.io_edge.specs.Writes.{AppendsFront}
-use Rattle.format_expr.specs.declared.piece.Piece.{Piece}
-use Rattle.format_expr.specs.declared.fault.ExprFault.{ExprFault}
-use Rattle.format_expr.specs.Language.{ArePiecesOf}
-use Rattle.format_expr.specs.Faults.{IsFault, word_of}
 use Rattle.script_lines.specs.declared.line.Line.{Line}
 use Rattle.script_language.specs.Scripts.{IsScriptOf}
 use Rattle.load_script.specs.Texts.{load_text}
@@ -27,27 +22,9 @@ use Rattle.commands.specs.Commands.{command_of, text_of as word_text}
 use Rattle.load_runs.specs.Loading.{counting_faults}
 use Rattle.world_runs.specs.Loads.{CountedBehind, LoadFails, TellsLoad}
 use Rattle.script_runs.specs.Reading.{ReadsScript, ScriptFails}
+use Rattle.text_commands.specs.Texts.{ScriptPasses, TextPasses, TextFails}
 use Rattle.aisrun.specs.Scanning.{CanScan, CannotScan, ScansAll, ScansFront, TakesText}
 use Rattle.aisrun.specs.Usage.{usage_line}
-
--- the lines of a script are counted: all but blank lines and comments
-pub record ScriptPasses (bytes text : List ℕ) : Type 0 where
-  pub lines : List Line
-  pub script : IsScriptOf lines bytes
-  pub printed : text ≡ codes "ok " ++ (decimal (length lines) ++ codes "\n")
-
--- the text is an expression: its pieces are counted, and it has no fault
-pub record TextPasses (kind : StreamKind) (text printed : List ℕ) : Type 0 where
-  pub pieces : List Piece
-  pub spelled : ArePiecesOf kind pieces text
-  pub faultless : (fault : ExprFault) → IsFault kind text fault → ⊥
-  pub shown : printed ≡ codes "ok " ++ (decimal (length pieces) ++ codes "\n")
-
--- the text is none: its fault is told
-pub record TextFails (kind : StreamKind) (text printed : List ℕ) : Type 0 where
-  pub fault : ExprFault
-  pub found : IsFault kind text fault
-  pub shown : printed ≡ codes "bad " ++ (decimal fault.place ++ (codes " " ++ (word_of fault.why ++ codes "\n")))
 
 -- a script was read to be played
 pub record HasScript {S K D : Type 0} (run : Around S K D) (lines : List Line) : Type 0 where

@@ -1,9 +1,7 @@
-pub mod Checking
 pub mod Completing
 pub mod Edges
 pub mod Endings
 pub mod RunSteps
-pub mod ScanSteps
 pub mod Scanning
 pub mod Trios
 pub mod Usage

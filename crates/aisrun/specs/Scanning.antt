@@ -1,34 +1,12 @@
 -- Words of public clauses: what the commands `scan` and `find` do with a text and the bytes of a file.
-use Rattle.std.specs.Prelude.{◌≡◌, ℕ, List, ◌++◌, ◌⊎◌, Some, codes}
-use Rattle.std.specs.Fmt.{decimal}
+use Rattle.std.specs.Prelude.{◌≡◌, ℕ, List, ◌⊎◌, Some}
 use Rattle.ais_values.specs.declared.kind.StreamKind.{StreamKind}
 use Rattle.format_expr.specs.declared.piece.Piece.{Piece}
-use Rattle.format_expr.specs.declared.fault.ExprFault.{ExprFault}
-use Rattle.format_expr.specs.Language.{ArePiecesOf}
-use Rattle.format_expr.specs.Faults.{IsFault}
-use Rattle.record_scan.specs.Separable.{IsSeparable, IsFirstInWay}
 use Rattle.scan_lines.specs.Telling.{TellsAll, TellsFront}
 use Rattle.commands.specs.declared.command.RecordQuery.{RecordQuery}
 use Rattle.commands.specs.declared.command.Command.TheVariants.{Expr, Scan}
 use Rattle.commands.specs.Commands.{command_of, text_of, wanted_of}
-
--- the text is an expression of these pieces
-pub record IsExprOf (kind : StreamKind) (pieces : List Piece) (text : List ℕ) : Type 0 where
-  pub spelled : ArePiecesOf kind pieces text
-  pub faultless : (fault : ExprFault) → IsFault kind text fault → ⊥
-
--- it is, and in records of the size the texts of its tokens can be told apart
-pub record IsParted (query : RecordQuery) (text : List ℕ) (pieces : List Piece) : Type 0 where
-  pub expr : IsExprOf query.kind pieces text
-  pub separable : IsSeparable pieces query.size
-
--- it is, but they cannot: the first piece in the way is told
-pub record CannotPart (query : RecordQuery) (text printed : List ℕ) : Type 0 where
-  pub pieces : List Piece
-  pub expr : IsExprOf query.kind pieces text
-  pub piece : ℕ
-  pub first : IsFirstInWay pieces query.size piece
-  pub shown : printed ≡ codes "inseparable " ++ (decimal piece ++ codes "\n")
+use Rattle.text_commands.specs.Scanning.{IsParted, CannotPart}
 
 -- the words ask for records by a text that serves, and by one that does not
 pub record CanScan (words : List (List ℕ)) : Type 0 where

@@ -3,12 +3,8 @@
 //! `main` makes the real source, sink and disk and calls `run`, which does all the rest.
 #![tactic(auto)]
 
-mod check;
 mod ending;
-mod expr;
-mod generating;
 mod run;
-mod scanning;
 
 use callback_dispatch::OpenGate;
 use cluster_core::World;

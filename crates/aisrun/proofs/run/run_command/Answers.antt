@@ -9,13 +9,14 @@ use Rattle.played_runs.proofs.WritingSteps.{ended-alone, ended-as, ended-read}
 use Rattle.aisrun.specs.Edges.{around}
 use Rattle.commands.specs.declared.command.Command.{Command}
 use Rattle.commands.specs.declared.command.Command.TheVariants.{Run, Check, Trio, Expr, Gen, Load, Scan}
-use Rattle.aisrun.specs.Checking.{CheckEnds, ExprEnds}
+use Rattle.text_commands.specs.Checking.{CheckEnds, ExprEnds}
 use Rattle.commands.specs.Commands.{command_of, text_of, wanted_of}
 use Rattle.aisrun.specs.Endings.{Ends, LacksBy}
 use Rattle.world_runs.specs.Loads.{LoadEnds, LoadWants}
 use Rattle.aisrun.specs.RunSteps.{InputEnds, InputLacks, OfOther, OfTrio, WordsLack}
-use Rattle.aisrun.specs.ScanSteps.{ScanEnds, ScanLacks}
-use Rattle.aisrun.proofs.EndingSteps.{check-run, expr-run, input-lack, input-run, ok-ends}
+use Rattle.text_commands.specs.ScanSteps.{ScanEnds, ScanLacks}
+use Rattle.text_commands.proofs.CheckSteps.{ok-ends}
+use Rattle.aisrun.proofs.EndingSteps.{check-run, expr-run, input-lack, input-run}
 use Rattle.aisrun.proofs.GeneratingLaws.{gen-run}
 use Rattle.aisrun.proofs.ScanEndings.{scan-lack, scan-run}
 use Rattle.aisrun.proofs.LoadEndings.{load-lack, load-run}

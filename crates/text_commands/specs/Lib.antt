@@ -1,0 +1,4 @@
+pub mod Checking
+pub mod ScanSteps
+pub mod Scanning
+pub mod Texts
