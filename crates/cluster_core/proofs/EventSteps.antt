@@ -41,7 +41,7 @@ use Rattle.cluster_core.specs.Worlds.{IsGood, Shows, named, parts_of, seats_besi
 use Rattle.played_runs.specs.Games.{HasState}
 use Rattle.played_runs.specs.Games.{Broken, BreaksOn, Lacks}
 use Rattle.played_runs.specs.Views.{counters_of}
-use Rattle.cluster_core.specs.Playing.{IsEventLine}
+use Rattle.group_begin.specs.Lines.{IsEventLine}
 use Rattle.played_runs.specs.Games.{DoesEvent, EndsEvent, FaultLeaves}
 use Rattle.cluster_core.specs.Parts.{BreaksWhole, PlaysWhole, acting_as, acting_in, other_seat, whole_of}
 use Rattle.cluster_core.proofs.TwoSeats.{AreBeside, IsOfTwo, fallen-beside, shown-beside, two-good, two_beside}

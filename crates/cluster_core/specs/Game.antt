@@ -10,7 +10,8 @@ use Rattle.played_runs.specs.Games.{Game}
 use Rattle.cluster_core.specs.declared.world.World.{World}
 use Rattle.cluster_lines.specs.Beginning.{Begins}
 use Rattle.cluster_core.specs.Broken.{EventEnded}
-use Rattle.cluster_core.specs.Playing.{IsEventLine, LineDone}
+use Rattle.group_begin.specs.Lines.{IsEventLine}
+use Rattle.cluster_core.specs.Playing.{LineDone}
 use Rattle.cluster_core.specs.Worlds.{empty_world, pair_start, parts_of}
 
 abbrev pub world_game : Game Peers Line (Group 2) World

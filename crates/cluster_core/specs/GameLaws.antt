@@ -36,7 +36,8 @@ use Rattle.played_runs.proofs.WaitingLaws.{passes-told, passes-cored, waits-by-k
 use Rattle.cluster_core.specs.declared.world.World.{World}
 use Rattle.cluster_core.specs.Broken.{EventEnded}
 use Rattle.cluster_core.specs.Game.{world_game}
-use Rattle.cluster_core.specs.Playing.{calls_by, LineDone}
+use Rattle.group_begin.specs.Lines.{calls_by}
+use Rattle.cluster_core.specs.Playing.{LineDone}
 
 -- the device of a line that was done
 abbrev pub device_in :

@@ -1,13 +1,11 @@
 -- Words of public clauses: what each line of a script does to the world of the code.
-use Rattle.std.specs.Prelude.{◌≡◌, ℕ, ◌≤◌, ℤ, ◌≤ℤ◌, Option, IfSome, List, option_map}
+use Rattle.std.specs.Prelude.{◌≡◌, ◌≤◌, Option, IfSome, option_map}
 use Rattle.disk_model.specs.Counts.{Counters}
 use Rattle.disk_model.specs.Disk.{Files}
 use Rattle.script_lines.specs.declared.line.Line.{Line}
-use Rattle.script_lines.specs.declared.line.Line.TheVariants as line
 use Rattle.plain_service.specs.Setups.{Setup}
 use Rattle.plain_service.specs.Storing.{files_of}
 use Rattle.service_laws.specs.PlainOf.{plain_of}
-use Rattle.cluster_facts.specs.Types.{Entry}
 use Rattle.cluster_events.specs.Outcomes.{Outcome}
 use Rattle.cluster_events.specs.Servers.{State}
 use Rattle.cluster_events.specs.Running.{Shelf}
@@ -15,17 +13,8 @@ use Rattle.group_cluster.specs.Seats.{Peers}
 use Rattle.group_cluster.specs.Running.{GroupStep}
 use Rattle.cluster_rounds.specs.Kits.{device_by}
 use Rattle.group_servers.specs.GroupCounts.{CountsLine, FellIn}
+use Rattle.group_begin.specs.Lines.{calls_by}
 use Rattle.cluster_lines.specs.Shelves.{shelf_of}
-
--- a line that can be played behind the first one: no cluster line, and no time below that in force
-abbrev pub IsEventLine : ℤ → Line → Type 0
-IsEventLine now (line.Cluster start queue callbacks alarm ntf sys) = ⊥
-IsEventLine now (line.Time later) = now ≤ℤ later
-IsEventLine now _ = Unit {0}
-
--- the changing device calls that the deeds of an entry behind a history are
-abbrev pub calls_by : Setup → List Entry → Entry → ℕ
-calls_by setup = (device_by setup (λ number. 0)).calls
 
 -- A line was done: what it led to and printed, by the works that failed in it, with what the disk counted before and after it. A work
 -- fails only where the count of faults rose; and where it rose the line is one that works entries, and tells that a server is down. The

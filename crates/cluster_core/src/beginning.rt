@@ -1,6 +1,5 @@
 //! How a cluster begins.
-ghost use Rattle.std.specs.Prelude.{◌≡◌, ℕ, false, List, [], None, IfOk, OnOk, OnErr};
-ghost use Rattle.ais_values.specs.declared.kind.StreamKind.TheVariants.{Alarm, Notification, System};
+ghost use Rattle.std.specs.Prelude.{◌≡◌, ℕ, List, None, IfOk, OnOk, OnErr};
 ghost use Rattle.plain_service.specs.Setups.{Setup};
 ghost use Rattle.script_language.specs.Lines.{Spells};
 ghost use Rattle.service_core.specs.Beginning.{BeginsAs, CanBeginAs};
@@ -10,91 +9,22 @@ ghost use Rattle.cluster_clients.specs.Answers.{RisesAtFault};
 ghost use Rattle.cluster_lines.specs.Beginning.{Begins};
 ghost use Rattle.played_runs.specs.Views.{HoldsNone};
 ghost use Rattle.played_runs.specs.Games.{Begun, LeavesOpening};
-ghost use Rattle.group_servers.specs.GroupNodes.{standby_by};
-ghost use Rattle.cluster_core.specs.Starting.{wells_of, world_of, Starts, StartsBoth, StartsWorld, broken_by};
+ghost use Rattle.cluster_core.specs.Starting.{world_of, StartsBoth, StartsWorld};
 
 use crate::World;
-use ais_values::{Seq, StreamKind};
+use ais_values::Seq;
 use calls::History;
 use cluster_clients::EventAnswer;
-use disk_model::{DiskAnswer, SharedDisk};
+use disk_model::SharedDisk;
+use group_begin::{start_active, start_standby, unbegun, wells_of};
 use message_net::Net;
-use mirror::{Node, Role, let_heard_go, let_node_go};
-use script::well_attrs;
-use script_lines::{Line, WellOptions};
-use service_core::Service;
+use mirror::{Node, let_node_go};
+use script_lines::Line;
 use std::alloc::{AllocError, Global};
 use std::mem;
 use stream_config::StreamAttrs;
 use stream_files::perform;
 use stream_layout::Deed;
-
-/// The attributes of the well-known streams, as a cluster line has them. `Err` comes only for want of memory.
-pub fn wells_of(
-    alloc: Global,
-    alarm: &WellOptions,
-    ntf: &WellOptions,
-    sys: &WellOptions,
-) -> Result<Seq<StreamAttrs>, AllocError>
-    ensures { IfOk result (λ wells. wells ≡ wells_of alarm.now ntf.now sys.now) }
-{
-    let mut wells = Seq::new(alloc);
-    wells.push(well_attrs(alloc, StreamKind::Alarm, alarm)?)?;
-    wells.push(well_attrs(alloc, StreamKind::Notification, ntf)?)?;
-    wells.push(well_attrs(alloc, StreamKind::System, sys)?)?;
-    Ok(wells)
-}
-
-/// The active server at the start, tied to each standby, and the deeds of the start. What it would send these is left out, since they
-/// begin with the same. `Err` comes only for want of memory.
-pub fn start_active(
-    alloc: Global,
-    start: i64,
-    queue: u32,
-    wells: Seq<StreamAttrs>,
-) -> Result<(Node, Seq<Deed>), AllocError>
-    requires { CanBeginAs start queue wells }
-    ensures { IfOk result (λ made. (setup : Setup) → BeginsAs setup start queue wells →
-        Starts setup made.0 made.1) }
-{
-    match Service::new(alloc, start, queue, wells) {
-        Ok((service, deeds)) => {
-            let mut node = Node::start(alloc, Role::Active, service);
-            match node.begin_join(alloc) {
-                Ok(heard) => {
-                    let_heard_go(heard);
-                    Ok((node, deeds))
-                }
-                Err(error) => {
-                    let_node_go(node);
-                    mem::drop(deeds);
-                    Err(error)
-                }
-            }
-        }
-        Err(error) => Err(error),
-    }
-}
-
-/// A standby at the start. `Err` comes only for want of memory.
-pub fn start_standby(
-    alloc: Global,
-    start: i64,
-    queue: u32,
-    wells: Seq<StreamAttrs>,
-) -> Result<Node, AllocError>
-    requires { CanBeginAs start queue wells }
-    ensures { IfOk result (λ node. (setup : Setup) → BeginsAs setup start queue wells →
-        node ≡ standby_by setup [] false) }
-{
-    match Service::new(alloc, start, queue, wells) {
-        Ok((service, deeds)) => {
-            mem::drop(deeds);
-            Ok(Node::start(alloc, Role::Standby, service))
-        }
-        Err(error) => Err(error),
-    }
-}
 
 /// Both servers at the start, with the deeds of the start, each by attributes of its own.
 fn start_both(
@@ -165,18 +95,6 @@ fn started(alloc: Global, line: &Line) -> Result<(World, Seq<Deed>), AllocError>
             Ok((world_of(alloc, active, standby, *time, *callbacks), deeds))
         }
         _ => Err(AllocError),
-    }
-}
-
-/// Why a start was not done, by what the disk answered: nothing is printed.
-pub fn unbegun(alloc: Global, answer: DiskAnswer) -> EventAnswer
-    ensures { result ≡ broken_by answer }
-{
-    match answer {
-        DiskAnswer::Memory | DiskAnswer::Stopped => EventAnswer::Memory,
-        DiskAnswer::Failed => EventAnswer::DiskFault {
-            printed: Seq::new(alloc),
-        },
     }
 }
 

@@ -19,7 +19,7 @@ use std::thread::Threads;
 impl World {
     ghost use Rattle.cluster_core.specs.Game.{world_game};
     ghost use Rattle.played_runs.specs.Games.{HasState};
-    ghost use Rattle.cluster_core.specs.Playing.{IsEventLine};
+    ghost use Rattle.group_begin.specs.Lines.{IsEventLine};
     ghost use Rattle.played_runs.specs.Games.{DoesEvent, EventBroken, RisesInEvent};
 
     /// Does what a line of a script asks for, and answers with the lines that it prints, each with its line feed. A cluster line and a

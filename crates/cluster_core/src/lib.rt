@@ -7,5 +7,4 @@ mod parts;
 mod playable;
 mod world;
 
-pub use beginning::{start_active, start_standby, unbegun, wells_of};
 pub use world::World;

@@ -9,7 +9,7 @@ ghost use Rattle.group_servers.specs.GroupKit.{group_kit};
 ghost use Rattle.cluster_core.specs.Game.{world_game};
 ghost use Rattle.cluster_core.specs.Worlds.{is_first, named, unnamed, own_seat, seats_beside, parts_of};
 ghost use Rattle.played_runs.specs.Games.{HasState};
-ghost use Rattle.cluster_core.specs.Playing.{IsEventLine};
+ghost use Rattle.group_begin.specs.Lines.{IsEventLine};
 ghost use Rattle.cluster_core.specs.Parts.{acting_in, other_seat, whole_of, PlaysWhole, BreaksWhole};
 
 use crate::World;

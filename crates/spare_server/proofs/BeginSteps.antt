@@ -21,9 +21,9 @@ use Rattle.group_cluster.proofs.Running.{start-steady}
 use Rattle.group_servers.specs.GroupNodes.{standby_by}
 use Rattle.mirror.specs.declared.state.NodeState.{NodeState as Node}
 use Rattle.cluster_lines.specs.Beginning.{Begins}
-use Rattle.cluster_core.specs.Starting.{active_at}
+use Rattle.group_begin.specs.Starting.{active_at}
 use Rattle.cluster_lines.proofs.BeginSpelled.{spelled-begins}
-use Rattle.cluster_core.proofs.BeginSteps.{files-start, passed-unarmed}
+use Rattle.group_begin.proofs.StartSteps.{files-start, passed-unarmed}
 use Rattle.played_runs.specs.Views.{HoldsNone}
 use Rattle.played_runs.specs.Games.{Begun}
 use Rattle.spare_server.specs.declared.world.TrioWorld.{TrioWorld}

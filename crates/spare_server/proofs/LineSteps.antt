@@ -20,7 +20,7 @@ use Rattle.group_servers.specs.GroupKit.{group_kit, group_script}
 use Rattle.spare_server.specs.Happening.{group_line}
 use Rattle.spare_server.specs.Lines.{IsThird}
 use Rattle.spare_server.specs.Parts.{Played, Plays}
-use Rattle.cluster_core.specs.Playing.{IsEventLine}
+use Rattle.group_begin.specs.Lines.{IsEventLine}
 
 -- a line of the group that two servers have, or one on the third server
 abbrev pub IsGroups : TrioLine → Type 0

@@ -48,7 +48,7 @@ use Rattle.played_runs.specs.Views.{files_told}
 use Rattle.played_runs.proofs.RefusalLaws.{refuses-told, refuses-cored, refuses-by-kind}
 use Rattle.played_runs.proofs.TimeLaws.{in_time-told, in_time-cored, in_time-by-kind}
 use Rattle.played_runs.proofs.WaitingLaws.{passes-told, passes-cored, waits-by-kind}
-use Rattle.cluster_core.specs.Playing.{calls_by}
+use Rattle.group_begin.specs.Lines.{calls_by}
 use Rattle.spare_server.specs.declared.world.TrioWorld.{TrioWorld}
 use Rattle.spare_server.specs.Ended.{TrioEnded}
 use Rattle.spare_server.specs.Game.{trio_game}

@@ -15,7 +15,7 @@ use Rattle.cluster_rounds.specs.Kits.{device_by}
 use Rattle.group_servers.specs.GroupCounts.{CountsLine, FellIn}
 use Rattle.cluster_lines.specs.Shelves.{shelf_of}
 use Rattle.cluster_lines.specs.Beginning.{Begins}
-use Rattle.cluster_core.specs.Playing.{IsEventLine, calls_by}
+use Rattle.group_begin.specs.Lines.{IsEventLine, calls_by}
 use Rattle.spare_server.specs.Happening.{TrioStep, group_line}
 
 -- a cluster line tells this setup, and how many callbacks each agent's queue holds; no other line tells one

@@ -6,7 +6,7 @@ use Rattle.plain_service.specs.Setups.{Setup}
 use Rattle.plain_service.specs.Storing.{opening_of}
 use Rattle.mirror.specs.declared.state.NodeState.{NodeState as Node}
 use Rattle.group_servers.specs.GroupNodes.{standby_by}
-use Rattle.cluster_core.specs.Starting.{active_at}
+use Rattle.group_begin.specs.Starting.{active_at}
 use Rattle.spare_server.specs.declared.world.TrioWorld.{TrioWorld}
 
 -- a world in which nothing was posted, with these servers

@@ -14,7 +14,7 @@ use Rattle.trio_lines.specs.Lines.{SpellsOwn, SpellsTrio}
 use Rattle.trio_lines.specs.Scripts.{AreUnbegun, IsEarly, IsTrioOf, SpellTrios, shared_lines}
 use Rattle.trio_lines.specs.Scripts.SpellTrios.{done, skipped, spelled}
 use Rattle.trio_lines.proofs.Apart.{skipped-unspelled}
-use Rattle.cluster_core.specs.Playing.{IsEventLine}
+use Rattle.group_begin.specs.Lines.{IsEventLine}
 use Rattle.played_runs.specs.Steps.{CanFollow, CanPlay, IsPlayable, time_behind}
 use Rattle.spare_server.specs.Game.{trio_game}
 

@@ -9,7 +9,7 @@ use Rattle.load_lines.specs.Lines.{no_options}
 use Rattle.plain_service.specs.Setups.{Setup}
 use Rattle.load_runs.specs.Handed.{PlaysLoads, is_untimed}
 use Rattle.cluster_core.specs.Game.{world_game}
-use Rattle.cluster_core.specs.Playing.{IsEventLine}
+use Rattle.group_begin.specs.Lines.{IsEventLine}
 
 -- the cluster that the first line begins
 abbrev load_setup : Setup

@@ -9,7 +9,7 @@ use Rattle.script_language.specs.Scripts.{misplaced, time_after}
 use Rattle.plain_service.specs.Setups.{Setup}
 use Rattle.cluster_lines.specs.Beginning.{Begins}
 use Rattle.cluster_core.specs.Game.{world_game}
-use Rattle.cluster_core.specs.Playing.{IsEventLine}
+use Rattle.group_begin.specs.Lines.{IsEventLine}
 use Rattle.played_runs.specs.Steps.{time_behind}
 use Rattle.script_runs.specs.Handed.{PlaysScriptLines}
 

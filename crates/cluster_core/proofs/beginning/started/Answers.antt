@@ -1,7 +1,8 @@
 use Rattle.std.proofs.Common.{◌≡◌, subst, sym, ◌∙◌, to_z, of_z, w64, rules}
 use Rattle.service_core.specs.Beginning.{BeginsAs}
 use Rattle.cluster_core.specs.Starting.{world_of}
-use Rattle.cluster_core.proofs.BeginSteps.{begins-as, starts-world}
+use Rattle.group_begin.proofs.StartSteps.{begins-as}
+use Rattle.cluster_core.proofs.BeginSteps.{starts-world}
 use Rattle.cluster_core.proofs.beginning.started.Goals as goal
 
 pub start_both-requires : goal.start_both-requires

@@ -1,6 +1,6 @@
 use Rattle.std.proofs.Common.{◌≡◌, subst, sym, ◌∙◌, to_z, of_z, w64, rules}
 use Rattle.service_core.specs.Beginning.{BeginsAs}
-use Rattle.cluster_core.proofs.BeginSteps.{begins-as}
+use Rattle.group_begin.proofs.StartSteps.{begins-as}
 use Rattle.spare_server.specs.Starting.{world_of}
 use Rattle.spare_server.proofs.BeginSteps.{starts-trio}
 use Rattle.spare_server.proofs.beginning.started.Goals as goal

@@ -3,7 +3,8 @@ use Rattle.std.specs.Prelude.{option_map}
 use Rattle.disk_model.specs.DeviceCalls.{all_applied}
 use Rattle.stream_layout.specs.Deeds.{calls_of_all}
 use Rattle.cluster_lines.proofs.BeginSpelled.{spelled-begins}
-use Rattle.cluster_core.proofs.BeginSteps.{begun, begun-counts, start-broken, unbegun-stands}
+use Rattle.group_begin.proofs.StartSteps.{begun-counts, start-broken, unbegun-stands}
+use Rattle.cluster_core.proofs.BeginSteps.{begun}
 use Rattle.cluster_core.proofs.world.World.begin.Goals as goal
 
 pub returns-in-Ok-perform-clause-ok : goal.returns-in-Ok-perform-clause-ok

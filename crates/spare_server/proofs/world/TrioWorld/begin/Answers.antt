@@ -2,7 +2,7 @@ use Rattle.std.proofs.Common.{length, ap, ◌∙◌}
 use Rattle.std.specs.Prelude.{option_map}
 use Rattle.disk_model.specs.DeviceCalls.{all_applied}
 use Rattle.stream_layout.specs.Deeds.{calls_of_all}
-use Rattle.cluster_core.proofs.BeginSteps.{begun-counts, start-broken, unbegun-stands}
+use Rattle.group_begin.proofs.StartSteps.{begun-counts, start-broken, unbegun-stands}
 use Rattle.spare_server.proofs.BeginSteps.{begun, trio-begins}
 use Rattle.spare_server.proofs.world.TrioWorld.begin.Goals as goal
 
