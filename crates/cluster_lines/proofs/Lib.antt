@@ -5,5 +5,5 @@ pub mod LineSpelled
 pub mod BeginSpelled
 pub mod OwnLines
 mod ShowSteps
-mod WildLines
+pub mod WildLines
 pub mod StopSteps
