@@ -97,6 +97,7 @@ started bytes read whole cold held mid left before after told same is takes = re
   number = ap (λ (j : Journal). j.number) takes.2 ∙ whole.number;
   end = ap (λ (j : Journal). j.end) takes.2 ∙ whole.followed.at;
   mended = mended-has bytes read whole held left told (is ∙ ap (option_map (mended read.place read.closed)) same);
+  untold = λ none. is ∙ ap (option_map (mended read.place read.closed)) (same ∙ none);
   deeds = takes.3 ∙ ap (λ (n : Node). option_map (all_applied (calls_of_all (deeds_kept n.kept))) before) whole.node;
 }
 

@@ -38,7 +38,7 @@ IsRefusedIn None place = ⊥
 IsRefusedIn (Some bytes) place = RefusedAt bytes place
 
 -- A server started: the journal's bytes tell its entries and its value; it is active, the deeds of the last entry are done, and the journal
--- is that of what was found.
+-- is that of what was found. A disk that told no files tells none.
 pub record HasStarted (cold : Cold) (held left before after : Option Files) : Type 0 where
   pub bytes : List ℕ
   pub read : IfSome held (λ files. Some bytes ≡ bytes_in files)
@@ -50,6 +50,7 @@ pub record HasStarted (cold : Cold) (held left before after : Option Files) : Ty
   pub number : cold.journal.number ≡ follower.saved.number
   pub end : cold.journal.end ≡ length (framed (texts_of found.messages))
   pub mended : IfSome held (λ files. IfSome left (HasJournal (texts_of found.messages)))
+  pub untold : held ≡ None → left ≡ None
   pub deeds : after ≡ option_map (all_applied (calls_of_all (deeds_kept follower.kept))) before
 
 -- two counts of which one rose where the answer is this error; on every other answer both are what they were
