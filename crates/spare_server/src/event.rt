@@ -43,9 +43,11 @@ impl TrioWorld {
     /// `Memory` comes where memory ran out: some of the line was done, without its lines. The history is legal; each client's calls in it
     /// are the first of those that it had sent before, and what came to it is of the time in force, which stays, or waited for another
     /// server before. Each client was fed the beginning of its items, each reply that it took is the history's, and the files are
-    /// between. The counts of faults and stops are those of works that were done, or also of the one behind which a takeover lacked
-    /// memory. The same is answered where the history has 4,000,000,000 entries, where a client's agent has numbered 4,294,967,294 calls,
-    /// and where a string of the net has more than 4,294,967,294 bytes.
+    /// between. The counts of faults and stops are those of works that were done, and of one more in which the server fell, where memory was
+    /// wanting as a standby took over; of a `crash` those of standbys that had a fault as they took over before. As one took over no server
+    /// is armed, and the one that was active is down and leads still, unless the standby had made all of its calls, or another server fell
+    /// before in the line. The same is answered where the history has 4,000,000,000 entries, where a client's agent has numbered
+    /// 4,294,967,294 calls, and where a string of the net has more than 4,294,967,294 bytes.
     pub fn event<R: Threads + Wait + Sync, D: SharedDisk, G: Gate>(
         &mut self,
         rt: &R,
