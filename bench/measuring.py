@@ -160,16 +160,26 @@ def ratio(one, other):
 BESIDE = ("time", "to plain", "instructions a line", "to plain", "memory", "to plain")
 
 
-def beside(plain, folder, script, lines):
-    """The cells of `BESIDE` for a script of so many lines: what the program takes, and how many times what the plain one takes. Ends where
-    the two printed other lines or left other files."""
+def compared(plain, folder, script, word="run"):
+    """What the plain program and the proved one take for a script, which it plays by this word: seconds, instructions and memory of each.
+    Ends where the two printed other lines or left other files."""
     found = []
-    for name, words in (("plain", [plain]), ("proved", [program(), "run"])):
+    for name, words in (("plain", [plain] + [word] * (word != "run")), ("proved", [program(), word])):
         where = os.path.join(folder, name)
         taken = instructions(words, where, script)
         found.append((processor_time(words, where, script), taken, most_memory(words, where, script)))
     if differ(os.path.join(folder, "plain"), os.path.join(folder, "proved")):
         sys.exit(f"the two differ: {script}")
+    return found
+
+
+def beside(plain, folder, script, lines):
+    """The cells of `BESIDE` for a script of so many lines: what the program takes, and how many times what the plain one takes."""
+    return cells(compared(plain, folder, script), lines)
+
+
+def cells(found, lines):
+    """The cells of `BESIDE` for what a script of so many lines took."""
     (least, few, small), (seconds, taken, memory) = found
     return (f"{seconds * 1e3:.0f} ms", ratio(seconds, least), f"{taken / lines:,.0f}" if taken else "", ratio(taken, few), f"{memory:.1f} MB",
             ratio(memory, small))

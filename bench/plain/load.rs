@@ -30,7 +30,7 @@ fn turn_of(turn: u64, state: u64) -> String {
 
 /// Plays the script of so many turns from a seed on, and answers the line that tells what it came to.
 pub fn load(count: u64, seed: u64) -> io::Result<String> {
-    let mut world = World::begin(OPENING, false)?;
+    let mut world = World::begin(OPENING, 2, false)?;
     for line in ["log 1 init A.2.1", "log 1 open system", "ntf 2 init A.1.1", "settle"] {
         world.play(line)?;
     }

@@ -1,4 +1,4 @@
-//! Clients, the net, two servers, and the events.
+//! Clients, the net, two servers or three, and the events.
 use crate::disk::{Deed, Disk, ROOT};
 use crate::lines::{call_of, number, option, words_of};
 use crate::messages::{Alarm, Call, Callback, Content, Reply, item, receipt, reply_message, request};
@@ -9,11 +9,15 @@ use std::fs;
 use std::io::{self, Write};
 use std::rc::Rc;
 
-/// A server: the services, and the deeds of the last entry that it applied.
+/// A server: the services, and the deeds of the last entry that it applied since it was handed them on.
 struct Server {
     service: Service,
-    last: Vec<Deed>,
+    last: Option<Vec<Deed>>,
+    // whether it has not heard yet what it was handed on
+    joining: bool,
 }
+
+const NAMES: [&str; 3] = ["a", "b", "c"];
 
 #[derive(Default)]
 struct Agent {
@@ -43,10 +47,8 @@ pub struct World {
     now: i64,
     callbacks: usize,
     disk: Disk,
-    servers: [Option<Server>; 2],
+    servers: Vec<Option<Server>>,
     active: usize,
-    // whether the partner has not heard yet what it was handed on
-    joining: bool,
     agents: BTreeMap<u16, Agent>,
     net: Vec<Rc<[u8]>>,
     places: HashMap<Rc<[u8]>, usize>,
@@ -56,22 +58,22 @@ pub struct World {
 }
 
 impl World {
-    /// The world of a cluster line. What events print is kept where it is wanted.
-    pub fn begin(opening: &str, wanted: bool) -> io::Result<World> {
+    /// The world of a cluster line, with so many servers. What events print is kept where it is wanted.
+    pub fn begin(opening: &str, count: usize, wanted: bool) -> io::Result<World> {
         let words = words_of(opening);
         let ["cluster", start, queue, callbacks] = words[..] else { panic!("no cluster line") };
         let now: i64 = number(option(start, "start").expect("a start"));
         let (service, deeds) = Service::begin((now / 1_000_000_000) as u64, number(option(queue, "queue").expect("a queue")));
         let mut disk = Disk::default();
         disk.perform(&deeds)?;
-        let partner = Server { service: service.handed_on(), last: Vec::new() };
+        let others = (1..count).map(|_| service.handed_on()).collect::<Vec<Service>>();
+        let servers = std::iter::once(service).chain(others);
         Ok(World {
             now,
             callbacks: number(option(callbacks, "callbacks").expect("callbacks")),
             disk,
-            servers: [Some(Server { service, last: Vec::new() }), Some(partner)],
+            servers: servers.map(|service| Some(Server { service, last: None, joining: false })).collect(),
             active: 0,
-            joining: false,
             agents: BTreeMap::new(),
             net: Vec::new(),
             places: HashMap::new(),
@@ -103,59 +105,81 @@ impl World {
         match &self.servers[place] {
             None => "down",
             Some(_) if place == self.active => "active",
-            Some(_) if self.joining => "joining",
+            Some(server) if server.joining => "joining",
             Some(_) => "standby",
         }
     }
 
     fn tell_role(&mut self, place: usize) {
         let role = self.role(place);
-        self.lines.tell(format_args!("server {} {role}", ["a", "b"][place]));
+        self.lines.tell(format_args!("server {} {role}", NAMES[place]));
     }
 
     fn service(&self) -> &Service {
         &self.servers[self.active].as_ref().expect("an active server").service
     }
 
-    // The active server goes on with what its partner applied last, where it was the one that went down.
+    // The others of a server.
+    fn beside(&self, place: usize) -> impl Iterator<Item = usize> {
+        (0..self.servers.len()).filter(move |other| *other != place)
+    }
+
+    // Where it was the active server that went down, the first that applied nothing since it was handed the services on takes over, else
+    // the first, with the deeds of what it applied last; and it hands its services on to the others.
     fn crash(&mut self, place: usize) -> io::Result<()> {
         self.servers[place] = None;
-        self.joining = false;
         self.tell_role(place);
-        if place == self.active {
-            self.active = 1 - place;
-            let server = self.servers[self.active].as_ref().expect("a partner");
-            self.disk.perform(&server.last)?;
-            self.tell_role(self.active);
+        if place != self.active {
+            return Ok(());
+        }
+        let standbys: Vec<usize> = (0..self.servers.len()).filter(|other| self.role(*other) == "standby").collect();
+        let is_fresh = |other: &usize| self.servers[*other].as_ref().is_some_and(|server| server.last.is_none());
+        let next = standbys.iter().copied().find(is_fresh).unwrap_or_else(|| standbys[0]);
+        if let Some(deeds) = &self.servers[next].as_ref().expect("a standby").last {
+            self.disk.perform(deeds)?;
+        }
+        self.active = next;
+        self.tell_role(next);
+        for other in self.beside(next) {
+            if let Some(server) = self.servers[other].take() {
+                let service = self.service().handed_on();
+                self.servers[other] = Some(Server { service, last: None, joining: false });
+                if server.joining {
+                    self.tell_role(other);
+                }
+            }
         }
         Ok(())
     }
 
     fn restart(&mut self, place: usize) {
         let service = self.service().handed_on();
-        self.servers[place] = Some(Server { service, last: Vec::new() });
-        self.joining = true;
+        self.servers[place] = Some(Server { service, last: None, joining: true });
         self.tell_role(place);
     }
 
-    fn join(&mut self) {
-        if std::mem::take(&mut self.joining) {
-            self.tell_role(1 - self.active);
-        }
+    // One that joins hears what it was handed on. Tells whether there was one.
+    fn join(&mut self) -> bool {
+        let joins = |server: &Option<Server>| server.as_ref().is_some_and(|server| server.joining);
+        let Some(place) = self.servers.iter().position(joins) else { return false };
+        self.servers[place].as_mut().expect("a server").joining = false;
+        self.tell_role(place);
+        true
     }
 
-    // An entry is accepted and goes to both servers; the active one does its deeds.
+    // An entry is accepted and goes to all servers; the active one does its deeds.
     fn commit(&mut self, client: u16, seq: u32, call: &Rc<Call>) -> io::Result<Reply> {
-        assert!(!self.joining, "an entry beside a join");
+        assert!(self.servers.iter().flatten().all(|server| !server.joining), "an entry beside a join");
         self.history.push((client, seq, Some(call.clone()), self.now));
         self.lines.tell(format_args!("acc {} call {client} {seq} {}", self.history.len(), self.now));
-        if let Some(partner) = &mut self.servers[1 - self.active] {
-            partner.last = partner.service.apply(client, seq, call, self.now).1;
+        for other in self.beside(self.active) {
+            if let Some(server) = &mut self.servers[other] {
+                server.last = Some(server.service.apply(client, seq, call, self.now).1);
+            }
         }
         let server = self.servers[self.active].as_mut().expect("an active server");
         let (reply, deeds) = server.service.apply(client, seq, call, self.now);
         self.disk.perform(&deeds)?;
-        server.last = deeds;
         Ok(reply)
     }
 
@@ -165,8 +189,11 @@ impl World {
         if !server.service.received(client, key, number) {
             return false;
         }
-        if let Some(partner) = &mut self.servers[1 - self.active] {
-            partner.service.received(client, key, number);
+        for other in self.beside(self.active) {
+            if let Some(server) = &mut self.servers[other] {
+                server.service.received(client, key, number);
+                server.last = Some(Vec::new());
+            }
         }
         self.history.push((client, key, None, self.now));
         self.lines.tell(format_args!("acc {} rcpt {client} {key} {number} {}", self.history.len(), self.now));
@@ -296,7 +323,7 @@ impl World {
     }
 
     fn settle(&mut self) -> io::Result<()> {
-        self.join();
+        while self.join() {}
         while self.round()? {}
         Ok(())
     }
@@ -308,9 +335,11 @@ impl World {
             ["settle"] => self.settle()?,
             ["crash", place] => self.crash(place_of(place))?,
             ["restart", place] => self.restart(place_of(place)),
-            ["mirror"] => self.join(),
+            ["mirror"] => {
+                self.join();
+            }
             ["ack"] => {}
-            ["servers"] => (0..2).for_each(|place| self.tell_role(place)),
+            ["servers"] => (0..self.servers.len()).for_each(|place| self.tell_role(place)),
             ["dispatch", client, "all", workers] if workers.starts_with("workers=") => self.dispatch(number(client)),
             ["files"] => self.show_files()?,
             ["log" | "ntf", client, ..] => {
@@ -324,11 +353,7 @@ impl World {
 }
 
 fn place_of(server: &str) -> usize {
-    match server {
-        "a" => 0,
-        "b" => 1,
-        _ => panic!("no server: {server}"),
-    }
+    NAMES.iter().position(|name| *name == server).unwrap_or_else(|| panic!("no server: {server}"))
 }
 
 // An alarm as the words of its line.
