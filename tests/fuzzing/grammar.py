@@ -258,6 +258,10 @@ OTHERS = [
     Chain(b"crash ", SERVER), Chain(b"arm ", SERVER, b" ", Number(1, 2**64 - 1, (1, 2, 3, 4, 5, 12))), Lit(b"disarm"), Chain(b"restart ", SERVER),
     Chain(b"dispatch ", CLIENT, OneOf(b" one", Chain(b" all workers=", Number(1, 8, (1, 4, 8))))), Lit(b"servers"), Lit(b"files"),
     Chain(b"cat ", Quoted((b"saLogSystem.cfg", b"saLogSystem_20240101_000002.log", b"x", b"", b"../x", b"a/b")))]
+# The further lines of three servers.
+ANY_SERVER = OneOf(b"a", b"b", b"c")
+SPARE = [Lit(b"crash c"), Chain(b"arm c ", Number(1, 2**64 - 1, (1, 2, 3, 4, 5, 12))), Lit(b"restart c"), Chain(b"mirror ", ANY_SERVER),
+         Chain(b"ack ", ANY_SERVER)]
 REQUEST = b"\x01\x00\x01\x00\x00\x00\x01\x01"
 INJECT = Chain(b"inject ", Quoted((b"", b"\x09", REQUEST[:7], REQUEST, REQUEST + b"\x00")))
 

@@ -23,6 +23,9 @@ OPENING = [b"log 1 init A.2.1", b"log 1 open system", b"ntf 1 init A.1.1", b"ntf
 STEPS = [b"settle", b"settle", b"dispatch 1 all workers=3", b"dispatch 1 one", b"crash a", b"restart a", b"crash b", b"restart b", b"arm a 1", b"arm a 3",
          b"arm b 2", b"arm b 9", b"disarm", b"push", b"work", b"work", b"mirror", b"mirror", b"ack", b"ack", b"resend 1", b"resend 2", b"files",
          b"servers", b"deliver 1"] + [b"deliver %d" % place for place in range(5, 30)]
+# Steps of three servers: those that go down and join, in a write and between.
+SPARE_STEPS = [b"crash c", b"restart c", b"arm c 1", b"arm c 3", b"mirror a", b"mirror b", b"mirror c", b"mirror c", b"ack a", b"ack b", b"ack c",
+               b"crash a", b"crash b", b"restart a", b"restart b", b"deliver 4", b"deliver 6"]
 USUAL = [b'log 1 write system inv=1 flags=1 gen sev=6 class=0.0.0 user="u" body="x"', b'log 1 write system inv=2 flags=0 gen sev=0 class=1.2.3 user="v" body=""',
          b'ntf 2 send alarm type=0x4001 obj="o" by="b" class=0.0.0 time=5 text="t" cause=1 sev=1', b"ntf 1 read 1", b"ntf 1 read 2", b"ntf 1 endread",
          b'ntf 2 send alarm type=0x4002 obj="o" by="b" class=0.0.0 time=3 text="t" cause=1 sev=1',
@@ -50,12 +53,14 @@ class Inputs:
     BOUNDS = [b"%d" % (bound + step) for bound in (0, 1, 8, 32, 64, 128, 255, 256, 1024, 4096, 16384, 65535, 2**30, 2**31, 2**32, 2**63, 2**64,
                                                    LAST_TIME) for step in (-1, 0, 1)] + [b"-0", b"00", b"+1", b"0x1", b"", b"1" * 40]
 
-    def __init__(self, grammar):
-        self.grammar = grammar
+    def __init__(self, grammar, spare=None):
+        self.grammar, self.spare = grammar, spare and Inputs(spare)
+        self.steps = STEPS + SPARE_STEPS * 2 if grammar.spare else STEPS
         bench = os.path.join(TOP, "bench")
         sys.path.insert(0, bench)
         play = importlib.machinery.SourceFileLoader("play", os.path.join(bench, "play")).load_module()
-        paths = sorted(glob.glob(os.path.join(TOP, "tests", "scripts", "*.ais")) + glob.glob(os.path.join(TOP, "examples", "*.ais")))
+        folders = [("tests", "scripts"), ("examples",)] + [("tests", "scripts", "trio")] * 3 * grammar.spare
+        paths = sorted(path for folder in folders for path in glob.glob(os.path.join(TOP, *folder, "*.ais")))
         self.scripts = [read_file(path) for path in paths]
         self.scripts += ["".join(line + "\n" for line in play.script_of(40, called, False)).encode() for called in (False, True)]
         self.scripts = [script for script in self.scripts if len(script) < 6000]
@@ -72,7 +77,7 @@ class Inputs:
         count = rng.choice([1, 8, 20, 40, 60])
         while len(lines) < count:
             kind = rng.random()
-            line = rng.choice(usual if kind < 0.75 else STEPS) if kind < 0.9 else TIMED.make(rng) if kind < 0.92 else rng.choice(self.grammar.forms).make(rng)
+            line = rng.choice(usual if kind < 0.75 - self.grammar.spare * 0.25 else self.steps) if kind < 0.9 else TIMED.make(rng) if kind < 0.92 else rng.choice(self.grammar.forms).make(rng)
             line = self.injected(rng) if self.grammar.injects and rng.random() < 0.05 else line
             lines += [line] * (rng.choice([1, 1, 2, 3]) if rng.random() < 0.98 else 34)
         return lines + [b"settle", b"files"] * (rng.random() < 0.5)
@@ -187,7 +192,7 @@ class Inputs:
 
     def any_words(self, rng):
         """Words of any kind, most of them nearly a command."""
-        words = rng.choice([[b"run"], [b"check"], [b"expr", b"system", b"@Cr"], [b"gen", b"2", b"1"], [b"scan", b"system", b"@Cr", b"32"],
+        words = rng.choice([[b"run"], [b"trio"], [b"check"], [b"expr", b"system", b"@Cr"], [b"gen", b"2", b"1"], [b"scan", b"system", b"@Cr", b"32"],
                             [b"find", b"system", b"@Cr", b"32", b"1", b"x"], [b"load", b"2", b"1"], [b"--help"], [b"--version"], []])[:]
         for _ in range(rng.choice([1, 1, 2])):
             at = rng.randrange(len(words) + 1)
@@ -202,8 +207,11 @@ class Inputs:
         kind = rng.random()
         command = only or ("check" if kind < 0.62 else "run" if kind < 0.74 else "expr" if kind < 0.84 else "scan" if kind < 0.89 else
                            "find" if kind < 0.94 else "words" if kind < 0.98 else "gen" if kind < 0.995 else "load")
-        if command in ("check", "run"):
-            return [command.encode()], self.bytes_of_any_kind(rng) if rng.random() < 0.1 else self.script(rng, 0.8 if command == "run" else 0.2)
+        if command == "run" and not only and self.spare and rng.random() < 0.3:
+            command = "trio"
+        if command in ("check", "run", "trio"):
+            made = self.spare if command == "trio" else self
+            return [command.encode()], self.bytes_of_any_kind(rng) if rng.random() < 0.1 else made.script(rng, 0.2 if command == "check" else 0.8)
         if command == "words":
             return self.any_words(rng)
         if command in ("gen", "load"):

@@ -2,7 +2,7 @@
 bytes are a script, the script of a large run, and which words are a command."""
 import re
 
-from grammar import CLUSTER, INJECT, OTHERS, TIMED, fits, quote
+from grammar import CLUSTER, INJECT, OTHERS, SPARE, TIMED, fits, quote
 
 TOKENS = {b"C": b"rthnsamMdDyYcxbi", b"N": b"thnsamMdDyYieog", b"S": b"lv"}
 LENGTHS = {b"Cr": 10, b"Cc": 29, b"Cx": 1, b"Ni": 18, b"Ne": 6, b"Sv": 2,
@@ -119,11 +119,11 @@ def has_good_options(found):
 
 
 class Grammar:
-    """The lines that this program takes."""
+    """The lines that this program takes, of two servers or of three."""
 
-    def __init__(self, injects):
-        self.injects = injects
-        self.forms = OTHERS + [INJECT] * injects
+    def __init__(self, injects, spare=False):
+        self.injects, self.spare = injects, spare
+        self.forms = OTHERS + [INJECT] * injects + SPARE * spare
 
     def fault_of(self, line, time):
         """Why a line that is not skipped has no form here, or none; and the time in force behind it."""
@@ -174,8 +174,8 @@ def generated(count, seed):
     return ("\n".join(text + ["settle", "servers"]) + "\n").encode()
 
 
-def command_of(words, loads):
-    """Whether the words are one of the table's rows."""
+def command_of(words, further):
+    """Whether the words are one of the table's rows, of which these words are in the program or not."""
     def number(word, low, high):
         return re.fullmatch(rb"0|[1-9][0-9]{0,19}", word) and low <= int(word) <= high
 
@@ -189,10 +189,10 @@ def command_of(words, loads):
         return None
     first, *rest = words
     if len(rest) == 0:
-        good = first in (b"run", b"check")
+        good = first in (b"run", b"check") or first == b"trio" and first in further
     elif len(rest) == 2:
         numbers = number(rest[0], 1, 100000) and number(rest[1], 0, 2**64 - 1)
-        good = rest[0] in CLASSES if first == b"expr" else (first == b"gen" or loads and first == b"load") and numbers
+        good = rest[0] in CLASSES if first == b"expr" else (first == b"gen" or first == b"load" and first in further) and numbers
     elif len(rest) == 3:
         good = first == b"scan" and kind_and_size(rest[0], rest[2])
     else:

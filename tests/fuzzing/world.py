@@ -5,7 +5,7 @@ from grammar import quote, unescape
 from plain import COMMON, SYSTEM, UNSET, Service, options, unquoted, words_of
 import wire
 
-OTHER = {b"a": b"b", b"b": b"a"}
+PAIR, TRIO = (b"a", b"b"), (b"a", b"b", b"c")
 
 
 class Agent:
@@ -49,9 +49,9 @@ class Agent:
 
 
 class World:
-    """Servers, net, agents and files; each event adds its lines."""
+    """Servers of these names, net, agents and files; each event adds its lines."""
 
-    def __init__(self, line):
+    def __init__(self, line, names=PAIR):
         found = options(words_of(line))
         self.places = int(found[b"callbacks"])
         wells = []
@@ -64,8 +64,12 @@ class World:
         self.service = Service(self.now, int(found[b"queue"]), wells)
         self.files, self.lines, self.net, self.places_of, self.agents = {}, [], [], {}, {}
         self.perform(self.service.opening)
-        self.history, self.hand, self.linked, self.link, self.back, self.kept, self.arm = [], None, True, [], [], [], None
-        self.roles = {b"a": b"active", b"b": b"standby"}
+        self.history, self.hand, self.arm = [], None, None
+        # Of each server what is on the way to it and back, and whether it is sent what is accepted; and the last entry that it applied
+        # since it received the service, with its deeds.
+        self.roles = {name: b"standby" if name != b"a" else b"active" for name in names}
+        self.link, self.back, self.linked = {name: [] for name in names}, {name: [] for name in names}, set(names[1:])
+        self.kept = {name: None for name in names}
 
     # What lines tell.
 
@@ -89,8 +93,9 @@ class World:
         self.tell(b"server", server, role)
 
     def refuse(self, line):
-        self.tell(b"refused", line, *(name + b"=" + self.role(name) for name in (b"a", b"b")), b"net=%d" % len(self.net), b"link=%d" % len(self.link),
-                  b"back=%d" % len(self.back), b"hand=%s" % (b"-" if self.hand is None else b"%d" % self.number()))
+        self.tell(b"refused", line, *(name + b"=" + self.role(name) for name in self.roles), b"net=%d" % len(self.net),
+                  b"link=%d" % sum(map(len, self.link.values())), b"back=%d" % sum(map(len, self.back.values())),
+                  b"hand=%s" % (b"-" if self.hand is None else b"%d" % self.number()))
 
     def number(self):
         return len(self.history) + (self.hand["state"] == "waiting")
@@ -121,8 +126,13 @@ class World:
     def active(self):
         return next(server for server, role in self.roles.items() if role == b"active")
 
-    def in_service(self, server):
-        return self.role(server) in (b"active", b"standby")
+    def in_service_beside(self, server):
+        """Whether another server is in service."""
+        return any(self.role(other) in (b"active", b"standby") for other in self.roles if other != server)
+
+    def first(self, lists):
+        """The first server whose list is not empty, or none."""
+        return next((server for server in self.roles if lists[server]), None)
 
     def hear(self, message):
         """What the active server says of a request or receipt: why it has no effect, or none."""
@@ -152,12 +162,22 @@ class World:
 
     def accept(self, entry):
         self.hand = {"entry": dict(entry, time=self.now), "state": "waiting"}
-        if self.linked:
-            self.link.append("mirror")
-        else:
-            self.commit("ready")
+        for server in self.linked:
+            self.link[server].append("mirror")
+        self.look()
 
-    def commit(self, state):
+    def look(self):
+        """The entry in hand is committed once it is on the way to no server, and ready once no answer of it is on the way back."""
+        if self.hand is None or self.hand["state"] == "ready":
+            return
+        if self.hand["state"] == "waiting":
+            if any("mirror" in link for link in self.link.values()):
+                return
+            self.commit()
+        if not any("mirrored" in back for back in self.back.values()):
+            self.hand["state"] = "ready"
+
+    def commit(self):
         """The entry in hand joins the history."""
         entry = self.hand["entry"]
         self.history.append(entry)
@@ -171,22 +191,21 @@ class World:
             reply, self.hand["deeds"] = self.service.apply(client, call, entry["time"], len(self.history))
             self.hand["reply"] = ("rep", client, number, reply)
             self.tell(b"acc", len(self.history), b"call", client, number, entry["time"])
-        self.hand["state"] = state
+        self.hand["state"] = "applied"
 
-    def mirror(self):
-        peer = OTHER[self.active()]
-        if self.link.pop(0) == "mirror":
-            self.commit("applied")
-            self.kept = self.hand["deeds"]
-            self.back.append("mirrored")
+    def mirror(self, server):
+        if self.link[server].pop(0) == "mirror":
+            self.kept[server] = self.hand
+            self.back[server].append("mirrored")
         else:
-            self.kept = []
-            self.turn(peer, b"standby")
-            self.back.append("joined")
+            self.kept[server] = None
+            self.turn(server, b"standby")
+            self.back[server].append("joined")
+        self.look()
 
-    def confirm(self):
-        if self.back.pop(0) == "mirrored":
-            self.hand["state"] = "ready"
+    def confirm(self, server):
+        self.back[server].pop(0)
+        self.look()
 
     def work(self):
         calls = sum(deed[0] for deed in self.hand["deeds"])
@@ -202,27 +221,42 @@ class World:
         self.join()
 
     def join(self):
-        """A partner that joins is sent the service once the hand is empty."""
-        if self.hand is None and not self.linked and b"joining" in self.roles.values():
-            self.linked = True
-            self.link.append("snapshot")
+        """Servers that join are sent the service once the hand is empty."""
+        for server in self.roles:
+            if self.hand is None and self.roles[server] == b"joining" and server not in self.linked:
+                self.linked.add(server)
+                self.link[server].append("snapshot")
 
     def fall(self, server):
         """A server goes down."""
-        was_active = self.roles[server] == b"active"
-        self.link, self.back, self.arm, self.linked = [], [], None, False
-        if not was_active:
-            if self.hand is not None:
-                if self.hand["state"] == "waiting":
-                    self.commit("ready")
-                self.hand["state"] = "ready"
-            self.turn(server, b"down")
+        if self.roles[server] == b"active":
+            self.take_over(server)
             return
-        self.hand = None
+        self.link[server], self.back[server] = [], []
+        self.linked.discard(server)
+        self.look()
         self.turn(server, b"down")
-        self.perform(self.kept)
-        self.kept = []
-        self.turn(OTHER[server], b"active")
+
+    def take_over(self, active):
+        """The active server goes down. Where a standby has applied the waiting entry, all do, and it is committed; else it is gone. The first
+        that has applied none since it received the service takes over, else the first that is standby, which performs the deeds of the last
+        entry once more; the others receive its service."""
+        standbys = [server for server in self.roles if self.roles[server] == b"standby"]
+        if self.hand is not None and self.hand["state"] == "waiting" and any(self.kept[server] is self.hand for server in standbys):
+            self.commit()
+            self.kept.update((server, self.hand) for server in standbys)
+        self.hand, self.arm = None, None
+        self.turn(active, b"down")
+        leader = next((server for server in standbys if self.kept[server] is None), standbys[0])
+        self.perform(self.kept[leader]["deeds"] if self.kept[leader] else [])
+        self.turn(leader, b"active")
+        self.linked = set()
+        for server in self.roles:
+            self.link[server], self.back[server], self.kept[server] = [], [], None
+            if self.roles[server] in (b"standby", b"joining"):
+                self.linked.add(server)
+                if self.roles[server] == b"joining":
+                    self.turn(server, b"standby")
 
     # Clients.
 
@@ -306,11 +340,11 @@ class World:
         return items
 
     def drain(self):
-        while self.link or self.back or self.hand is not None:
-            if self.link:
-                self.mirror()
-            elif self.back:
-                self.confirm()
+        while self.first(self.link) or self.first(self.back) or self.hand is not None:
+            if self.first(self.link):
+                self.mirror(self.first(self.link))
+            elif self.first(self.back):
+                self.confirm(self.first(self.back))
             else:
                 self.work()
 
@@ -342,13 +376,17 @@ class World:
         words = words_of(line)
         word = words[0]
         ready = self.hand is not None and self.hand["state"] == "ready"
-        if word == b"deliver" and int(words[1]) > len(self.net) or word == b"mirror" and not self.link or word == b"ack" and not self.back:
+        if word == b"deliver" and int(words[1]) > len(self.net):
             return False
+        if word in (b"mirror", b"ack"):
+            lists = self.link if word == b"mirror" else self.back
+            if not (lists[words[1]] if words[1:] else self.first(lists)):
+                return False
         if word == b"work" and not ready or word == b"push" and self.hand is not None or word == b"cat" and unquoted(words[1]) not in self.files:
             return False
         if word == b"inject" and wire.judged(unquoted(words[1])) is None:
             return False
-        if word in (b"crash", b"arm") and not self.in_service(OTHER[words[1]]) or word == b"arm" and self.roles[words[1]] != b"active":
+        if word in (b"crash", b"arm") and not self.in_service_beside(words[1]) or word == b"arm" and self.roles[words[1]] != b"active":
             return False
         if word in (b"crash", b"restart") and (self.roles[words[1]] == b"down") != (word == b"restart"):
             return False
@@ -366,10 +404,12 @@ class World:
         elif word == b"resend":
             for message in self.agents[int(words[1])].resent(int(words[1])) if int(words[1]) in self.agents else []:
                 self.deliver(self.places_of[message])
-        elif word in (b"mirror", b"work", b"push", b"settle"):
+        elif word in (b"work", b"push", b"settle"):
             getattr(self, word.decode())()
+        elif word == b"mirror":
+            self.mirror(words[1] if words[1:] else self.first(self.link))
         elif word == b"ack":
-            self.confirm()
+            self.confirm(words[1] if words[1:] else self.first(self.back))
         elif word == b"crash":
             self.fall(words[1])
         elif word == b"arm":
@@ -382,7 +422,7 @@ class World:
         elif word == b"dispatch":
             self.dispatch(int(words[1]), words)
         elif word == b"servers":
-            for server in (b"a", b"b"):
+            for server in self.roles:
                 self.tell(b"server", server, self.role(server))
         elif word == b"files":
             for name in sorted(self.files):
@@ -413,10 +453,10 @@ def spelled(line):
     return re.sub(rb'"(.*)"', lambda found: quote(unescape(found.group(1))), line)
 
 
-def played(script):
-    """The world behind the lines of a script."""
+def played(script, names=PAIR):
+    """The world of servers of these names behind the lines of a script."""
     lines = [line for line in script.split(b"\n") if line and not line.startswith(b"#")]
-    world = World(lines[0])
+    world = World(lines[0], names)
     for line in lines[1:]:
         if not world.event(line):
             world.refuse(spelled(line))
