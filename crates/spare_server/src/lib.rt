@@ -11,4 +11,5 @@ mod world;
 
 pub use cluster_clients::EventAnswer;
 pub use law::law_of_standbys;
+pub use trio_lines::{TrioLine, TrioServer, parse_trio};
 pub use world::TrioWorld;
