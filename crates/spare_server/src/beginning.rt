@@ -20,7 +20,7 @@ use cluster_clients::EventAnswer;
 use disk_model::SharedDisk;
 use group_begin::{start_active, start_standby, unbegun, wells_of};
 use message_net::Net;
-use mirror::Node;
+use mirror::{Node, let_node_go};
 use script_lines::Line;
 use std::alloc::{AllocError, Global};
 use std::mem;
@@ -46,7 +46,7 @@ fn start_others(
         Ok(one) => match start_standby(alloc, start, queue, same) {
             Ok(other) => Ok((one, other)),
             Err(error) => {
-                mem::drop(one);
+                let_node_go(one);
                 Err(error)
             }
         },
@@ -76,7 +76,7 @@ fn start_all(
         Ok((active, deeds)) => match start_others(alloc, start, queue, same, third) {
             Ok((one, other)) => Ok((active, one, other, deeds)),
             Err(error) => {
-                mem::drop(active);
+                let_node_go(active);
                 mem::drop(deeds);
                 Err(error)
             }
@@ -197,11 +197,11 @@ impl TrioWorld {
         };
         match perform(disk, &deeds) {
             Ok(()) => {
-                mem::drop(mem::replace(self, world));
+                mem::replace(self, world).end();
                 Ok(())
             }
             Err(answer) => {
-                mem::drop(world);
+                world.end();
                 Err(unbegun(alloc, answer))
             }
         }

@@ -24,7 +24,7 @@ use cluster_rounds::Cluster;
 use disk_model::{DiskAnswer, SharedDisk};
 use group_servers::{Group, Seat};
 use message_net::Net;
-use mirror::{Node, Role};
+use mirror::{Node, Role, let_node_go};
 use script_lines::Server;
 use std::alloc::Global;
 use std::mem;
@@ -75,7 +75,7 @@ fn put_node(world: TrioWorld, server: Server, node: Node) -> TrioWorld
         Server::B => mem::replace(&mut whole.b, node),
         Server::C => mem::replace(&mut whole.c, node),
     };
-    mem::drop(before);
+    let_node_go(before);
     whole
 }
 
@@ -257,6 +257,6 @@ pub(crate) fn play_whole<R: Threads + Wait + Sync, D: SharedDisk, G: Gate>(
 {
     let mut parts = take_parts(alloc, world);
     let played = play_line(rt, alloc, &mut parts, lines, line, disk, gate);
-    mem::drop(mem::replace(world, put_parts(parts)));
+    mem::replace(world, put_parts(parts)).end();
     played
 }

@@ -3,13 +3,13 @@ ghost use Rattle.std.specs.Prelude.{◌≡◌};
 ghost use Rattle.spare_server.specs.Worlds.{empty_trio};
 
 use ais_values::Seq;
-use calls::History;
-use client_agent::Agent;
+use calls::{History, let_history_go};
+use client_agent::{Agent, let_agents_go};
 use message_net::Net;
-use mirror::Node;
+use mirror::{Node, let_node_go};
 use std::alloc::Global;
 use std::mem;
-use wire::Message;
+use wire::{Message, let_messages_go};
 
 /// Three servers, each with the messages on the way to it and back, the net, the clients' agents by rising client, and what was
 /// committed.
@@ -61,6 +61,34 @@ impl TrioWorld {
 
     /// Lets the world go, with all that it holds, at one place for all who have one.
     pub fn end(self) {
-        mem::drop(self);
+        let TrioWorld {
+            a,
+            b,
+            c,
+            link_a,
+            link_b,
+            link_c,
+            back_a,
+            back_b,
+            back_c,
+            net,
+            agents,
+            history,
+            now: _,
+            armed: _,
+            callbacks: _,
+        } = self;
+        let_node_go(a);
+        let_node_go(b);
+        let_node_go(c);
+        let_messages_go(link_a);
+        let_messages_go(link_b);
+        let_messages_go(link_c);
+        let_messages_go(back_a);
+        let_messages_go(back_b);
+        let_messages_go(back_c);
+        mem::drop(net);
+        let_agents_go(agents);
+        let_history_go(history);
     }
 }
