@@ -8,12 +8,12 @@ use crate::mirror_tests::{START, new_disk, service};
 use ais_values::{ClassId, Name, Text};
 use calls::Call;
 use disk_model::{MemDisk, SharedDisk};
-use mirror::{Heard, Node, Role};
+use mirror::{Heard, Node, Role, let_heard_go, let_node_go};
 use record_print::Header;
 use std::alloc::{AllocError, Global};
 use std::process::Abort;
 use stream_config::{FullAction, StreamAttrs, StreamName};
-use wire::Message;
+use wire::{Message, let_message_go};
 
 /// A server receives a message that it admits.
 fn receive_admitted(alloc: Global, node: &mut Node, message: &Message) -> Result<Heard, AllocError>
@@ -30,7 +30,7 @@ fn follows(rt: &impl Abort, alloc: Global, node: &mut Node, from: Heard) -> Hear
     assert!(rt; admitted);
     assert!(rt; node.has_room());
     let heard = receive_admitted(alloc, node, message).expect(rt, "memory");
-    drop(from);
+    let_heard_go(from);
     heard
 }
 
@@ -43,8 +43,8 @@ fn confirms(rt: &impl Abort, alloc: Global, node: &mut Node, from: Heard) {
         Message::MirrorAck { .. } => node.receive(alloc, message, START).ok(),
         _ => None,
     };
-    drop(from);
-    drop(heard.expect(rt, "an answer to what was sent"));
+    let_heard_go(from);
+    let_heard_go(heard.expect(rt, "an answer to what was sent"));
 }
 
 /// A call of a client comes to the active server, goes to the standby and is worked once that has answered.
@@ -66,12 +66,12 @@ fn goes(
         call,
     };
     let heard = active.receive(alloc, &message, START).expect(rt, "memory");
-    drop(message);
+    let_message_go(Some(message));
     assert!(rt; !active.ready());
     let answer = follows(rt, alloc, standby, heard);
     confirms(rt, alloc, active, answer);
     assert!(rt; active.ready());
-    drop(active.work(alloc, disk).expect(rt, "a disk that serves"));
+    let_heard_go(active.work(alloc, disk).expect(rt, "a disk that serves"));
     assert!(rt; active.in_hand() == None);
 }
 
@@ -164,10 +164,10 @@ fn two_servers_work_entries_by_their_own_messages(rt: HostRuntime) {
     let after = held(&rt, alloc, &mut disk);
     assert!(rt; before.0 == after.0);
     assert!(rt; before.1 < after.1);
-    drop(active);
+    let_node_go(active);
     assert!(rt; other.keeps());
     assert!(rt; other.role() == Role::Standby);
-    drop(
+    let_heard_go(
         other
             .takeover(alloc, &mut disk)
             .expect(&rt, "a disk that serves"),
@@ -176,5 +176,5 @@ fn two_servers_work_entries_by_their_own_messages(rt: HostRuntime) {
     assert!(rt; again == after);
     assert!(rt; other.role() == Role::Active);
     drop(disk);
-    drop(other);
+    let_node_go(other);
 }

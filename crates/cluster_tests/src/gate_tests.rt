@@ -2,7 +2,7 @@
 ghost use Rattle.cluster_rounds.specs.Worlds.{HasStateOn, any_state};
 ghost use Rattle.group_servers.specs.GroupKit.{group_kit};
 
-use crate::lines_tests::{begin, plays, plays_by};
+use crate::lines_tests::{begin, let_cluster_go, plays, plays_by};
 use crate::mirror_tests::{START, default_wells, new_disk};
 use ais_values::{ClassId, Name, Text, Version, Which};
 use callback_dispatch::Gate;
@@ -121,5 +121,5 @@ fn each_worker_passes_its_gate_where_something_waits(rt: HostRuntime) {
     dispatches(&rt, alloc, &mut cluster, &mut disk, &gate, 1);
     assert!(rt; gate.passed.load(SeqCst) == 255);
     drop(disk);
-    drop(cluster);
+    let_cluster_go(cluster);
 }

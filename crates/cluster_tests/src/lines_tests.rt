@@ -10,13 +10,14 @@ ghost use Rattle.cluster_tests.specs.Starting.{cluster_of, seat_of};
 use crate::mirror_tests::{START, default_wells, new_disk};
 use ais_values::Seq;
 use callback_dispatch::{Gate, OpenGate};
-use calls::History;
+use calls::{History, let_history_go};
+use client_agent::let_agents_go;
 use cluster_lines::play;
 use cluster_rounds::Cluster;
 use disk_model::{NoDisk, SharedDisk};
-use group_servers::{Group, Seat};
+use group_servers::{Group, Seat, let_seat_go};
 use message_net::Net;
-use mirror::{Node, Role};
+use mirror::{Node, Role, let_node_go};
 use script_lines::{Line, Server};
 use service_core::Service;
 use std::alloc::{AllocError, Global};
@@ -79,6 +80,25 @@ pub(crate) fn begin<D: SharedDisk>(
         }
         Err(error) => Err(error),
     }
+}
+
+/// Lets a cluster go.
+pub(crate) fn let_cluster_go(cluster: Cluster<Group<2>>) {
+    let Cluster {
+        servers,
+        net,
+        agents,
+        history,
+        ..
+    } = cluster;
+    let Group { active, seats, .. } = servers;
+    let [one, other] = seats;
+    let_node_go(active);
+    let_seat_go(one);
+    let_seat_go(other);
+    let_agents_go(agents);
+    let_history_go(history);
+    drop(net);
 }
 
 /// Plays a line, whose workers pass a gate, and which prints so many lines.
@@ -189,5 +209,5 @@ fn lines_are_played(rt: HostRuntime) {
     );
     joins(&rt, alloc, &mut cluster, &mut disk);
     drop(disk);
-    drop(cluster);
+    let_cluster_go(cluster);
 }

@@ -10,12 +10,12 @@ ghost use Rattle.mirror.specs.Pairing.{CanReceive};
 use ais_values::{Seq, StreamKind};
 use calls::{Call, Entry};
 use disk_model::MemDisk;
-use mirror::{Heard, Node, Outcome, Role, Why};
+use mirror::{Heard, Node, Outcome, Role, Why, let_heard_go, let_node_go};
 use service_core::Service;
 use std::alloc::Global;
 use std::process::Abort;
 use stream_config::{StreamAttrs, well_known};
-use wire::Message;
+use wire::{Message, let_message_go, let_messages_go};
 
 /// 2024-01-01 00:00:00.
 pub(crate) const START: i64 = 1_704_067_200_000_000_000;
@@ -80,7 +80,7 @@ fn told_by(heard: Heard) -> Told {
         for_peer: heard.to_peer.as_slice().len(),
         commits: heard.committed.is_some(),
     };
-    drop(heard);
+    let_heard_go(heard);
     told
 }
 
@@ -153,7 +153,7 @@ fn hears(rt: &impl Abort, alloc: Global, node: &mut Node, message: Message, want
 {
     assert!(rt; node.has_room());
     let heard = node.receive(alloc, &message, START);
-    drop(message);
+    let_message_go(Some(message));
     let told = told_by(heard.expect(rt, "memory"));
     assert!(rt; told == want);
 }
@@ -245,7 +245,7 @@ fn a_call_is_answered_and_repeated(rt: HostRuntime) {
     accepts(&rt, alloc, &mut node);
     answers(&rt, alloc, &mut node, &mut disk);
     drop(disk);
-    drop(node);
+    let_node_go(node);
 }
 
 #[test]
@@ -255,14 +255,14 @@ fn a_call_of_long_ago_is_old(rt: HostRuntime) {
     let mut disk = new_disk(alloc);
     forgets(&rt, alloc, &mut node, &mut disk, 1);
     drop(disk);
-    drop(node);
+    let_node_go(node);
 }
 
 /// A server of another role than the active one's.
 fn ignores(rt: &impl Abort, alloc: Global, mut node: Node, role: Role) {
     assert!(rt; node.role() == role);
     receives(rt, alloc, &mut node, ignored(Why::NotForRole { role }));
-    drop(node);
+    let_node_go(node);
 }
 
 #[test]
@@ -284,8 +284,8 @@ fn nothing_is_pushed_while_nothing_is_held(rt: HostRuntime) {
     let node = Node::start(alloc, Role::Active, service(&rt, alloc));
     let messages = node.push(alloc).expect(&rt, "memory");
     let count = messages.as_slice().len();
-    drop(messages);
-    drop(node);
+    let_messages_go(messages);
+    let_node_go(node);
     assert!(rt; count == 0);
 }
 
@@ -309,7 +309,7 @@ fn mirrors(rt: &impl Abort, alloc: Global) {
     asks(rt, alloc, &mut node, 1, 1, MIRRORED);
     assert!(rt; node.in_hand() == Some(1));
     assert!(rt; !node.ready());
-    drop(node);
+    let_node_go(node);
 }
 
 /// A standby hears of the first call, and answers that it has it.
@@ -347,5 +347,5 @@ fn a_standby_that_has_a_call_repeats_its_reply(rt: HostRuntime) {
     let mut disk = new_disk(alloc);
     takes_over(&rt, alloc, &mut node, &mut disk);
     drop(disk);
-    drop(node);
+    let_node_go(node);
 }

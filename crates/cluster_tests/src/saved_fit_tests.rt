@@ -5,6 +5,7 @@ mod plan;
 
 use building::built;
 use calls::Saved;
+use mirror::{Node, Role, let_node_go};
 use plan::{
     ALARMS, ALARMS_BY_SOURCE, EMPTY, NONE, OBJECTS_BY_CAUSE, OBJECTS_TOO, Plan, StreamPlan, alarm,
     reader, sound, stream, sub, window,
@@ -13,12 +14,18 @@ use saved_fit::is_fit;
 use service_core::Service;
 use std::alloc::Global;
 use std::process::Abort;
+use wire::{Message, let_message_go};
+
+/// Lets a service go, with a server that has it.
+fn let_service_go(alloc: Global, service: Service) {
+    let_node_go(Node::start(alloc, Role::Active, service));
+}
 
 /// Whether a service is made again of a value.
 fn is_restored(alloc: Global, value: &Saved) -> bool {
     match Service::restore(alloc, value) {
         Ok(service) => {
-            drop(service);
+            let_service_go(alloc, service);
             true
         }
         Err(_) => false,
@@ -30,7 +37,7 @@ fn is_plan_fit(rt: &impl Abort, alloc: Global, plan: &Plan) -> bool {
     let value = built(rt, alloc, plan);
     let fit = is_fit(&value);
     assert!(rt; is_restored(alloc, &value) == fit);
-    drop(value);
+    let_message_go(Some(Message::Snapshot { saved: value }));
     fit
 }
 
@@ -349,12 +356,12 @@ fn takes(rt: &impl Abort, alloc: Global, plan: &Plan, client: u16, key: u32, thr
     let new = match Service::restore(alloc, &value) {
         Ok(service) => {
             let new = service.is_new(client, key, through);
-            drop(service);
+            let_service_go(alloc, service);
             new
         }
         Err(_) => false,
     };
-    drop(value);
+    let_message_go(Some(Message::Snapshot { saved: value }));
     new
 }
 

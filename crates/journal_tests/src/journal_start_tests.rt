@@ -3,15 +3,15 @@ ghost use Rattle.std.specs.Prelude.{◌≡◌, ◌≢◌, ◌≤◌};
 ghost use Rattle.wire.specs.MessageSpelling.{MessageInRange};
 
 use ais_values::{Name, Seq, StreamKind, Text};
-use calls::{Call, Entry, Saved, SavedStream};
+use calls::{Call, Entry, Saved, SavedStream, let_entries_go};
 use disk_model::{DiskAnswer, MemDisk, SharedDisk};
 use journal_start::{Cold, ColdAnswer, Journal, cold_start};
-use mirror::{Node, Role};
+use mirror::{Node, Role, let_node_go};
 use service_core::Service;
 use std::alloc::Global;
 use std::process::Abort;
 use stream_config::{FullAction, LogFile, Mark, StreamAttrs, StreamName, StreamState, well_known};
-use wire::{Message, encode};
+use wire::{Message, encode, let_message_go};
 
 const NAME: &[u8] = b"journal.dat";
 
@@ -160,7 +160,7 @@ fn bytes_of(rt: &impl Abort, alloc: Global, disk: &mut MemDisk, name: &[u8]) -> 
 fn makes(rt: &impl Abort, alloc: Global, disk: &mut MemDisk) -> Journal {
     let message = snapshot(rt, alloc);
     let made = Journal::make(alloc, disk, &message);
-    drop(message);
+    let_message_go(Some(message));
     made.expect(rt, "a disk that serves")
 }
 
@@ -178,7 +178,7 @@ fn appends(
     let mut journal = journal;
     assert!(rt; journal.number <= 1 && journal.end <= 100_000);
     let done = journal.append(alloc, disk, &message);
-    drop(message);
+    let_message_go(Some(message));
     assert!(rt; done == want);
     journal
 }
@@ -187,7 +187,7 @@ fn appends(
 fn spelled(rt: &impl Abort, alloc: Global) -> Vec<u8> {
     let message = snapshot(rt, alloc);
     let bytes = encode(alloc, &message);
-    drop(message);
+    let_message_go(Some(message));
     bytes.expect(rt, "memory")
 }
 
@@ -221,7 +221,9 @@ fn told_by(cold: Cold) -> Started {
         entries: cold.entries.as_slice().len(),
         role: cold.node.role(),
     };
-    drop(cold);
+    let Cold { node, entries, .. } = cold;
+    let_node_go(node);
+    let_entries_go(entries);
     started
 }
 
@@ -356,7 +358,7 @@ fn bytes_without_entries_are_no_journal_or_refused(rt: HostRuntime) {
 /// Whether a server can follow a message.
 fn admits(rt: &impl Abort, alloc: Global, node: &Node, message: Message) -> bool {
     let answer = node.admits(alloc, &message);
-    drop(message);
+    let_message_go(Some(message));
     answer.expect(rt, "memory")
 }
 
@@ -370,7 +372,7 @@ fn standby(rt: &impl Abort, alloc: Global) -> Option<Node> {
         },
         _ => None,
     };
-    drop(message);
+    let_message_go(Some(message));
     restored
 }
 
@@ -380,12 +382,12 @@ fn a_server_can_follow_the_value_and_then_the_next_entry(rt: HostRuntime) {
     let node = Node::joining(alloc);
     let value = admits(&rt, alloc, &node, snapshot(&rt, alloc));
     let entry = admits(&rt, alloc, &node, first());
-    drop(node);
+    let_node_go(node);
     assert!(rt; value && !entry);
     let node = standby(&rt, alloc).expect(&rt, "a fit value");
     let value = admits(&rt, alloc, &node, snapshot(&rt, alloc));
     let next = admits(&rt, alloc, &node, first());
     let later = admits(&rt, alloc, &node, second(&rt, alloc));
-    drop(node);
+    let_node_go(node);
     assert!(rt; !value && next && !later);
 }

@@ -17,7 +17,7 @@ use std::sync::atomic::Ordering::SeqCst;
 use std::thread::Threads;
 use stream_config::{Mark, StreamName};
 use sub_queue::{Content, Item, Lost};
-use wire::Message;
+use wire::{Message, let_message_go, let_messages_go};
 
 /// A call of a client.
 #[derive(Clone, Copy)]
@@ -110,7 +110,7 @@ fn sent(rt: &impl Abort, alloc: Global, agent: &mut Agent, asked: Asked) -> u32 
     let answer = agent.call(alloc, &ask).expect(rt, "memory");
     drop(ask);
     let number = number_sent(&answer);
-    drop(answer);
+    let_sent_go(answer);
     number
 }
 
@@ -147,9 +147,9 @@ fn replied<R: Abort + Wait>(
         reply,
     };
     let taken = agent.receive(rt, alloc, &message).expect(rt, "memory");
-    drop(message);
+    let_message_go(Some(message));
     let number = number_taken(&taken);
-    drop(taken);
+    let_taken_go(taken);
     number
 }
 
@@ -175,9 +175,9 @@ fn delivered<R: Abort + Wait>(
         item: Boxed::new(alloc, Item { number, content }).expect(rt, "memory"),
     };
     let taken = agent.receive(rt, alloc, &message).expect(rt, "memory");
-    drop(message);
+    let_message_go(Some(message));
     let number = number_taken(&taken);
-    drop(taken);
+    let_taken_go(taken);
     number
 }
 
@@ -227,7 +227,7 @@ fn handed<R: Abort + Threads + Wait + Sync>(
 fn count_resent(rt: &impl Abort, alloc: Global, agent: &Agent) -> usize {
     let messages = agent.resend(alloc).expect(rt, "memory");
     let count = messages.as_slice().len();
-    drop(messages);
+    let_messages_go(messages);
     count
 }
 
@@ -247,7 +247,7 @@ fn numbers_calls_and_refuses_by_itself(rt: HostRuntime) {
     ] {
         assert!(rt; sent(&rt, alloc, &mut agent, asked) == want, "{want}");
     }
-    drop(agent);
+    let_agent_go(agent);
 }
 
 #[test]
@@ -265,7 +265,7 @@ fn has_32_calls_without_a_reply(rt: HostRuntime) {
     assert!(rt; replied(&rt, alloc, &mut agent, 1, Reply::Done) == 1);
     assert!(rt; sent(&rt, alloc, &mut agent, write) == 33);
     assert!(rt; count_resent(&rt, alloc, &agent) == 32);
-    drop(agent);
+    let_agent_go(agent);
 }
 
 /// The agent of a client with one subscription, its first call, and a queue of two.
@@ -304,7 +304,7 @@ fn takes_each_reply_and_item_once(rt: HostRuntime) {
     assert!(rt; handed(&rt, alloc, &mut agent, How::One) == 1);
     assert!(rt; delivered(&rt, alloc, &mut agent, 2, 3) == 103);
     assert!(rt; count_resent(&rt, alloc, &agent) == 2);
-    drop(agent);
+    let_agent_go(agent);
 }
 
 #[test]
@@ -316,10 +316,10 @@ fn hands_out_all_or_nothing(rt: HostRuntime) {
     let all = How::All { workers: 4 };
     assert!(rt; handed(&rt, alloc, &mut agent, all) == 12);
     assert!(rt; handed(&rt, alloc, &mut agent, all) == 0);
-    drop(agent);
+    let_agent_go(agent);
     let mut other = Agent::new(&rt, alloc, 8, 2).expect(&rt, "memory");
     assert!(rt; handed(&rt, alloc, &mut other, How::One) == 99);
-    drop(other);
+    let_agent_go(other);
 }
 
 /// Whether the callback of this number tells of this write.
@@ -377,7 +377,7 @@ fn calls_back_for_writes_in_order(rt: HostRuntime) {
     assert!(rt; tells_of_both(&given));
     drop(given);
     assert!(rt; replied(&rt, alloc, &mut agent, 4, Reply::Done) == 4);
-    drop(agent);
+    let_agent_go(agent);
 }
 
 /// What a reply comes to that tells a mark of the system stream. Where memory runs out it comes once more.
@@ -396,9 +396,9 @@ fn told<R: Abort + Wait>(rt: &R, alloc: Global, agent: &mut Agent, seq: u32, mar
         Ok(taken) => taken,
         Err(_) => agent.receive(rt, alloc, &message).expect(rt, "memory"),
     };
-    drop(message);
+    let_message_go(Some(message));
     let number = number_taken(&taken);
-    drop(taken);
+    let_taken_go(taken);
     number
 }
 
@@ -478,7 +478,7 @@ fn masks_told<R: Abort + Threads + Wait + Sync>(
         assert!(rt; taken == seq, "{seq}");
     }
     let codes = codes_handed(rt, alloc, &mut agent);
-    drop(agent);
+    let_agent_go(agent);
     codes
 }
 
@@ -526,7 +526,7 @@ fn leaves_a_mask_that_has_no_place(rt: HostRuntime) {
     assert!(rt; codes_handed(&rt, alloc, &mut agent) == 90_007);
     assert!(rt; told(&rt, alloc, &mut agent, 2, Mark { since: 5, mask: 8 }) == 2);
     assert!(rt; codes_handed(&rt, alloc, &mut agent) == 800);
-    drop(agent);
+    let_agent_go(agent);
 }
 
 /// Counts the workers that pass.
@@ -554,7 +554,7 @@ fn hands_out_by<R: Abort + Threads + Wait + Sync>(rt: &R, alloc: Global, workers
     let all = How::All { workers };
     assert!(rt; handed_through(rt, alloc, &mut agent, all, &gate) == 12);
     assert_eq!(rt; gate.workers.load(SeqCst), workers);
-    drop(agent);
+    let_agent_go(agent);
 }
 
 #[test]

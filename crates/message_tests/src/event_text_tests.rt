@@ -1,6 +1,6 @@
 //! The lines of events, against the written rules.
 use ais_values::{ClassId, Name, Seq, Status, Text};
-use calls::{Boxed, Call, Callback, Entry, Reply};
+use calls::{Boxed, Call, Callback, Entry, Reply, let_entry_go};
 use cluster_events::{Roles, ServerRole, Standing, Why};
 use event_text::{
     put_callback, put_declined, put_dispatched, put_entry, put_file, put_ignored, put_post,
@@ -13,7 +13,7 @@ use std::alloc::Global;
 use std::process::Abort;
 use stream_config::{Mark, StreamName};
 use sub_queue::{Content, Item, Lost};
-use wire::{Message, WireWhy};
+use wire::{Message, WireWhy, let_message_go};
 
 const T: i64 = 1_704_067_200_000_000_000;
 
@@ -31,7 +31,7 @@ fn are(rt: &impl Abort, alloc: Global, lines: Vec<Seq<u8>>, want: &[u8]) {
 fn post(rt: &impl Abort, alloc: Global, place: u64, message: Message, want: &[u8]) {
     let mut lines = Vec::new(alloc);
     let done = put_post(alloc, &mut lines, place, &message);
-    drop(message);
+    let_message_go(Some(message));
     done.expect(rt, "memory");
     are(rt, alloc, lines, want);
 }
@@ -39,7 +39,7 @@ fn post(rt: &impl Abort, alloc: Global, place: u64, message: Message, want: &[u8
 fn accept(rt: &impl Abort, alloc: Global, number: u64, entry: Entry, want: &[u8]) {
     let mut lines = Vec::new(alloc);
     let done = put_entry(alloc, &mut lines, number, &entry);
-    drop(entry);
+    let_entry_go(Some(entry));
     done.expect(rt, "memory");
     are(rt, alloc, lines, want);
 }

@@ -7,7 +7,7 @@ use std::alloc::Global;
 use std::process::Abort;
 use stream_config::{FullAction, LogFile, Mark, StreamAttrs, StreamName, StreamState};
 use sub_queue::{Content, Item, Lost};
-use wire::{Message, WireAnswer, WireWhy, decode, encode};
+use wire::{Message, WireAnswer, WireWhy, decode, encode, let_message_go};
 
 /// The bytes are refused at this place for this reason.
 fn refused(rt: &impl Abort, alloc: Global, bytes: &[u8], place: u32, why: WireWhy) {
@@ -15,7 +15,7 @@ fn refused(rt: &impl Abort, alloc: Global, bytes: &[u8], place: u32, why: WireWh
     let refusal = WireAnswer::Refused { place, why };
     match decode(alloc, bytes) {
         Ok(found) => {
-            drop(found);
+            let_message_go(Some(found));
             assert!(rt; false, "{bytes:?} is a message");
         }
         Err(answer) => assert_eq!(rt; answer, refusal),
@@ -28,7 +28,7 @@ fn read(rt: &impl Abort, alloc: Global, bytes: &[u8], message: &Message) {
     match decode(alloc, bytes) {
         Ok(found) => {
             let same = found == *message;
-            drop(found);
+            let_message_go(Some(found));
             assert!(rt; same, "{bytes:?}");
         }
         Err(answer) => assert!(rt; false, "{bytes:?}: {answer:?}"),
@@ -43,7 +43,7 @@ fn is_spelled(rt: &impl Abort, alloc: Global, message: &Message, want: &[u8])
     assert!(rt; bytes.as_slice() == want);
     let copy = message.copy(alloc).expect(rt, "memory");
     read(rt, alloc, bytes.as_slice(), &copy);
-    drop(copy);
+    let_message_go(Some(copy));
 }
 
 /// The message has this spelling, is read from it, and each proper front of it is short.
@@ -51,7 +51,7 @@ fn spelled(rt: &impl Abort, alloc: Global, message: Message, want: &[u8])
     requires { MessageInRange message }
 {
     is_spelled(rt, alloc, &message, want);
-    drop(message);
+    let_message_go(Some(message));
     assert!(rt; want.len() <= 1000);
     for end in 0..want.len() {
         refused(rt, alloc, &want[..end], end as u32, WireWhy::Short);
@@ -356,7 +356,7 @@ fn other_bytes_are_other_requests(rt: HostRuntime) {
         let call = Call::LogInit;
         let message = Message::Request { client, seq, call };
         read(&rt, rt.alloc(), &bytes, &message);
-        drop(message);
+        let_message_go(Some(message));
     }
 }
 
