@@ -2,4 +2,8 @@
 #![tactic(auto)]
 
 #[cfg(test)]
+mod broken_starts;
+#[cfg(test)]
 mod journal_start_tests;
+#[cfg(test)]
+mod journals;
