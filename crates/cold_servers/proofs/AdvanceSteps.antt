@@ -23,7 +23,7 @@ use Rattle.lone_server.specs.Working.{HearsBack, WorkBreaks, Works, WorksOver}
 use Rattle.cold_servers.specs.ColdKit.{cold_kit}
 use Rattle.cold_servers.specs.ColdLaws.{cold_laws}
 use Rattle.cold_servers.specs.ColdSeen.{ColdSeen, Outlives}
-use Rattle.cold_servers.specs.Steps.{AreUp}
+use Rattle.cold_servers.specs.Steps.{AllUp}
 use Rattle.cold_servers.proofs.AckState.{acks-advance}
 use Rattle.cold_servers.proofs.JoinFalls.{joins-end, joins-halts}
 use Rattle.cold_servers.proofs.ArmSteps.{armed-kept}
@@ -59,13 +59,13 @@ join-counts link end past entries result held left over cause =
     let later : Outlives held left = record { disk = stood-least held.disk.faults left.disk.faults same; journal = cause.later } in
     counts-by result held left later (λ is. record { later = later; rose = inr (cause.rose is) })
 
-pub join-comes : (went : Bool) (old : Cluster Solo) (servers : Lone) (history : Pushed) (before after : List (List ℕ)) (held left : ColdSeen) → AreUp old → (old.servers.lone.link ≡ [] → ⊥) → Joins went old.servers.lone servers old.history.entries history.entries before after → JoinsOver old.servers.lone.link old.servers.lone.journal.end old.history.entries history.entries (Ok went) held.disk left.disk held.journal left.journal → RoseExactlyOn {T = Bool} held.journal.faults left.journal.faults (Ok went) Failed → RoseExactlyOn {T = Bool} held.journal.stops left.journal.stops (Ok went) Stopped
+pub join-comes : (went : Bool) (old : Cluster Solo) (servers : Lone) (history : Pushed) (before after : List (List ℕ)) (held left : ColdSeen) → AllUp old → (old.servers.lone.link ≡ [] → ⊥) → Joins went old.servers.lone servers old.history.entries history.entries before after → JoinsOver old.servers.lone.link old.servers.lone.journal.end old.history.entries history.entries (Ok went) held.disk left.disk held.journal left.journal → RoseExactlyOn {T = Bool} held.journal.faults left.journal.faults (Ok went) Failed → RoseExactlyOn {T = Bool} held.journal.stops left.journal.stops (Ok went) Stopped
     → Advances cold_kit went old (record old { servers = record { lone = servers }; history = history }) before after held left
 join-comes true old servers history before after held left up some joins over cause stop = λ setup state good shows count so.
     joins-advance setup state old servers history before after held left good shows count (up setup state good shows) joins over (stands-done true held.journal left.journal cause stop)
 join-comes false old servers history before after held left up some joins over cause stop = absurd (some joins.0)
 
-pub join-off : (answer : DiskAnswer) (old : Cluster Solo) (servers : Lone) (history : Pushed) (before after : List (List ℕ)) (held left : ColdSeen) → AreUp old → JoinBreaks answer old.servers.lone servers old.history.entries history.entries before after → JoinsOver old.servers.lone.link old.servers.lone.journal.end old.history.entries history.entries (Err answer) held.disk left.disk held.journal left.journal → RoseExactlyOn {T = Bool} held.journal.faults left.journal.faults (Err answer) Failed → RoseExactlyOn {T = Bool} held.journal.stops left.journal.stops (Err answer) Stopped
+pub join-off : (answer : DiskAnswer) (old : Cluster Solo) (servers : Lone) (history : Pushed) (before after : List (List ℕ)) (held left : ColdSeen) → AllUp old → JoinBreaks answer old.servers.lone servers old.history.entries history.entries before after → JoinsOver old.servers.lone.link old.servers.lone.journal.end old.history.entries history.entries (Err answer) held.disk left.disk held.journal left.journal → RoseExactlyOn {T = Bool} held.journal.faults left.journal.faults (Err answer) Failed → RoseExactlyOn {T = Bool} held.journal.stops left.journal.stops (Err answer) Stopped
     → ComesOff cold_kit any_state (EndsStep cold_kit) answer old (record old { servers = record { lone = servers }; history = history }) before after held left
 join-off Memory old servers history before after held left up breaks over cause stop = λ setup state good shows count so.
     joins-lack setup state old servers history held left good shows (up setup state good shows) breaks over (rose-by {T = Bool} Memory held.journal left.journal cause stop)
@@ -76,7 +76,7 @@ join-off Stopped old servers history before after held left up breaks over cause
 
 -- The server hears that it did.
 
-pub back-comes : (old : Cluster Solo) (servers : Lone) (lines : List (List ℕ)) (held : ColdSeen) → AreUp old → HearsBack true old.servers.lone servers → Advances cold_kit true old (record old { servers = record { lone = servers } }) lines lines held held
+pub back-comes : (old : Cluster Solo) (servers : Lone) (lines : List (List ℕ)) (held : ColdSeen) → AllUp old → HearsBack true old.servers.lone servers → Advances cold_kit true old (record old { servers = record { lone = servers } }) lines lines held held
 back-comes old servers lines held up hears = λ setup state good shows count so.
     acks-advance setup state old servers lines held good shows count (up setup state good shows) hears
 
@@ -96,12 +96,12 @@ work-counts calls result held left over cause =
     let later : Outlives held left = record { disk = cause.later; journal = stood-least held.journal.faults left.journal.faults same } in
     counts-by result held left later (λ is. record { later = later; rose = inl (cause.rose is) })
 
-pub work-comes : {T : Type 0} (done : T) (old : Cluster Solo) (servers : Lone) (net before after : List (List ℕ)) (held left : ColdSeen) → AreUp old → IsSome old.servers.lone.node.replica.owed → old.servers.lone.node.waits ≡ None → Works old.servers.lone servers old.net net before after → WorksOver (calls_of_all (deeds_in old.servers.lone.node.replica.owed)) (Ok done) held.disk left.disk held.journal left.journal → RoseExactlyOn {T = T} held.disk.faults left.disk.faults (Ok done) Failed → RoseExactlyOn {T = T} held.disk.stops left.disk.stops (Ok done) Stopped
+pub work-comes : {T : Type 0} (done : T) (old : Cluster Solo) (servers : Lone) (net before after : List (List ℕ)) (held left : ColdSeen) → AllUp old → IsSome old.servers.lone.node.replica.owed → old.servers.lone.node.waits ≡ None → Works old.servers.lone servers old.net net before after → WorksOver (calls_of_all (deeds_in old.servers.lone.node.replica.owed)) (Ok done) held.disk left.disk held.journal left.journal → RoseExactlyOn {T = T} held.disk.faults left.disk.faults (Ok done) Failed → RoseExactlyOn {T = T} held.disk.stops left.disk.stops (Ok done) Stopped
     → Advances cold_kit true old (record old { servers = record { lone = servers }; net = net }) before after held left
 work-comes done old servers net before after held left up some none works over cause stop = λ setup state good shows count so.
     works-advance setup done state old servers net before after held left good shows count (up setup state good shows) some none works over (stands-done done held.disk left.disk cause stop)
 
-pub work-off : {T : Type 0} (answer : DiskAnswer) (old : Cluster Solo) (servers : Lone) (net before after : List (List ℕ)) (held left : ColdSeen) → AreUp old → IsSome old.servers.lone.node.replica.owed → old.servers.lone.node.waits ≡ None → WorkBreaks answer old.servers.lone servers old.net net before after → WorksOver {T = T} (calls_of_all (deeds_in old.servers.lone.node.replica.owed)) (Err answer) held.disk left.disk held.journal left.journal → RoseExactlyOn {T = T} held.disk.faults left.disk.faults (Err answer) Failed → RoseExactlyOn {T = T} held.disk.stops left.disk.stops (Err answer) Stopped
+pub work-off : {T : Type 0} (answer : DiskAnswer) (old : Cluster Solo) (servers : Lone) (net before after : List (List ℕ)) (held left : ColdSeen) → AllUp old → IsSome old.servers.lone.node.replica.owed → old.servers.lone.node.waits ≡ None → WorkBreaks answer old.servers.lone servers old.net net before after → WorksOver {T = T} (calls_of_all (deeds_in old.servers.lone.node.replica.owed)) (Err answer) held.disk left.disk held.journal left.journal → RoseExactlyOn {T = T} held.disk.faults left.disk.faults (Err answer) Failed → RoseExactlyOn {T = T} held.disk.stops left.disk.stops (Err answer) Stopped
     → ComesOff cold_kit any_state (EndsStep cold_kit) answer old (record old { servers = record { lone = servers }; net = net }) before after held left
 work-off Memory old servers net before after held left up some none breaks over cause stop = λ setup state good shows count so.
     works-lack setup state old servers net good shows (up setup state good shows) some none before after held left breaks over (rose-by {T = _} Memory held.disk left.disk cause stop)
@@ -111,7 +111,7 @@ work-off Stopped old servers net before after held left up some none breaks over
     works-halt setup state old servers net good shows (up setup state good shows) some none before after held left count breaks.0 breaks.1 breaks.2 over (rose-by {T = _} Stopped held.disk left.disk cause stop)
 
 -- or no step is left
-pub rests-advance : (old : Cluster Solo) (lines : List (List ℕ)) (held : ColdSeen) → AreUp old → old.servers.lone.link ≡ [] → old.servers.lone.back ≡ [] → (IsSome old.servers.lone.node.replica.owed → old.servers.lone.node.waits ≡ None → ⊥) → Advances cold_kit false old old lines lines held held
+pub rests-advance : (old : Cluster Solo) (lines : List (List ℕ)) (held : ColdSeen) → AllUp old → old.servers.lone.link ≡ [] → old.servers.lone.back ≡ [] → (IsSome old.servers.lone.node.replica.owed → old.servers.lone.node.waits ≡ None → ⊥) → Advances cold_kit false old old lines lines held held
 rests-advance old lines held up link back rests =
     (refl, refl, refl, λ setup fails state good shows. none-so setup fails state old good shows (up setup state good shows) link back rests)
 

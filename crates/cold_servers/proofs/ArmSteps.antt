@@ -36,7 +36,7 @@ use Rattle.cold_servers.specs.ColdLaws.{cold_laws, files-between, left-told, som
 use Rattle.cold_servers.specs.ColdNodes.{IsDown, OwnBy}
 use Rattle.cold_servers.specs.ColdSeen.{ColdSeen, FilesHeld, HoldsFiles, HoldsJournal, JournalHeld, LeavesTold, TellsBoth}
 use Rattle.lone_server.specs.Falls.{downed, unarmed}
-use Rattle.cold_servers.specs.Steps.{AreUp, disarmed_both, disk_armed, fell, journal_armed}
+use Rattle.cold_servers.specs.Steps.{AllUp, disarmed_both, disk_armed, fell, journal_armed}
 use Rattle.cold_servers.specs.ColdCounts.{Idle, Made}
 
 -- a disk whose files are what they were
@@ -205,7 +205,7 @@ both-idle armed beside held left one other = record {
 }
 
 -- **the record disk is armed**
-pub arms-disk : (count : ℕ) (old new : Cluster Solo) (lines : List (List ℕ)) (held left : ColdSeen) → AreUp old → 1 ≤ count → new ≡ record old { servers = record { lone = record old.servers.lone { armed = true } } } → Rearmed (Some count) held.disk left.disk → left.journal ≡ held.journal → DoesOn cold_kit cold_script (line.Arm A count) (disk_armed count) old new lines lines held left
+pub arms-disk : (count : ℕ) (old new : Cluster Solo) (lines : List (List ℕ)) (held left : ColdSeen) → AllUp old → 1 ≤ count → new ≡ record old { servers = record { lone = record old.servers.lone { armed = true } } } → Rearmed (Some count) held.disk left.disk → left.journal ≡ held.journal → DoesOn cold_kit cold_script (line.Arm A count) (disk_armed count) old new lines lines held left
 arms-disk count old new lines held left up some is now same setup state good shows armed =
     let other = same-rearmed held.journal left.journal same in
     let done = arms-on setup state (Some count) state.peers.beside old new (record old.servers.lone { armed = true }) lines held left is good shows
@@ -215,7 +215,7 @@ arms-disk count old new lines held left up some is now same setup state good sho
     (done.0, done.1, done.2, record { never = λ number. refl; counts = λ beside. both-idle (Some count) held.journal.tally.armed held left now other })
 
 -- **the journal's disk is**
-pub arms-journal : (count : ℕ) (old new : Cluster Solo) (lines : List (List ℕ)) (held left : ColdSeen) → AreUp old → 1 ≤ count → new ≡ record old { servers = record { lone = record old.servers.lone { armed = true } } } → Rearmed (Some count) held.journal left.journal → left.disk ≡ held.disk → DoesOn cold_kit cold_script (line.Arm B count) (journal_armed count) old new lines lines held left
+pub arms-journal : (count : ℕ) (old new : Cluster Solo) (lines : List (List ℕ)) (held left : ColdSeen) → AllUp old → 1 ≤ count → new ≡ record old { servers = record { lone = record old.servers.lone { armed = true } } } → Rearmed (Some count) held.journal left.journal → left.disk ≡ held.disk → DoesOn cold_kit cold_script (line.Arm B count) (journal_armed count) old new lines lines held left
 arms-journal count old new lines held left up some is now same setup state good shows armed =
     let one = same-rearmed held.disk left.disk same in
     let done = arms-on setup state state.peers.armed (Some count) old new (record old.servers.lone { armed = true }) lines held left is good shows

@@ -11,7 +11,6 @@ use Rattle.cluster_rounds.specs.Seen.{IsRead}
 use Rattle.cluster_rounds.proofs.WildSteps.{on-ok}
 use Rattle.cluster_lines.specs.Playing.{LooksBy}
 use Rattle.cluster_lines.specs.Steps.{ShowsOn, file_shown, files_listed}
-use Rattle.disk_model.specs.Disk.{Files}
 use Rattle.disk_model.specs.declared.answers.DiskAnswer.{DiskAnswer}
 use Rattle.script_lines.specs.declared.line.Line.{Line}
 use Rattle.script_lines.specs.declared.line.Line.TheVariants as line
@@ -57,12 +56,12 @@ use Rattle.cold_servers.specs.ColdCounts.{CountsLine}
 use Rattle.cold_servers.specs.ColdKit.{cold_kit, cold_script}
 use Rattle.cold_servers.specs.ColdLaws.{cold_laws}
 use Rattle.cold_servers.specs.ColdScript.{cold_follows}
-use Rattle.cold_servers.specs.ColdSeen.{ColdSeen}
+use Rattle.cold_servers.specs.ColdSeen.{ColdSeen, Outlives}
 use Rattle.cold_servers.specs.CountLaws.{idle-same}
 use Rattle.cold_servers.specs.Down.{IsDownLine, PlaysDown, PlaysDownLine}
 use Rattle.cold_servers.specs.Ignoring.{IgnoresAll, IsAskingAt, down_delivered, down_resent, ignored_all, is_asking}
-use Rattle.cold_servers.specs.Steps.{AreDown, disarmed_both}
-use Rattle.cold_servers.proofs.OwnLines.{idle-outlives, beside-of, refused-counts}
+use Rattle.cold_servers.specs.Steps.{AllDown, disarmed_both}
+use Rattle.cold_servers.proofs.OwnLines.{refused-counts}
 use Rattle.cold_servers.proofs.RestartSteps.{told-shelf}
 
 -- Over servers of which none of the disks is asked.
@@ -85,7 +84,7 @@ down-leads : (next : Line) (event : Event cold_kit) (setup : Setup) (shelf : She
 down-leads next event setup shelf state leads down =
     subst (λ (b : Bool). HappensBy b (plain_of setup) shelf (calm_device setup) next state (event setup state)) (sym down) (leads setup shelf state)
 
-does-down : (next : Line) (event : Event cold_kit) (old new : Cluster Solo) (before after : List (List ℕ)) (held : ColdSeen) → AreDown old → LeadsDown next event → LeavesIt event → CountsIt next event held → Does cold_kit event old new before after → PlaysDown next old new before after held held
+does-down : (next : Line) (event : Event cold_kit) (old new : Cluster Solo) (before after : List (List ℕ)) (held : ColdSeen) → AllDown old → LeadsDown next event → LeavesIt event → CountsIt next event held → Does cold_kit event old new before after → PlaysDown next old new before after held held
 does-down next event old new before after held down leads leaves counts does setup state good shows count =
     let shelf = told-shelf setup held.disk.files in
     let left = leaves setup state in
@@ -105,10 +104,10 @@ does-stands event old new before after held leaves has does =
     let done = does has.setup has.state has.good has.shows in
     record { setup = has.setup; state = (event has.setup has.state).state; good = done.1; shows = done.0; count = (leaves has.setup has.state).armed held has.count; so = tt }
 
-pub down-alone : {T E : Type 0} (r : Result T E) (s : Result T DiskAnswer) (next : Line) (event : Event cold_kit) (old new : Cluster Solo) (before after : List (List ℕ)) (held : ColdSeen) → EndsAs r s → HasStateOn cold_kit any_state old held → AreDown old → LeadsDown next event → LeavesIt event → CountsIt next event held → OnOk r (Does cold_kit event old new before after) → OnErr r (BreaksAlone cold_kit old new) → PlaysDownLine s next old new before after held held
-down-alone r s next event old new before after held same has down leads leaves counts does breaks = record {
+pub down-alone : {T E : Type 0} (r : Result T E) (s : Result T DiskAnswer) (next : Line) (event : Event cold_kit) (old new : Cluster Solo) (before after : List (List ℕ)) (held : ColdSeen) → EndsAs r s → AllDown old → LeadsDown next event → LeavesIt event → CountsIt next event held → OnOk r (Does cold_kit event old new before after) → OnErr r (BreaksAlone cold_kit old new) → PlaysDownLine s next old new before after held held
+down-alone r s next event old new before after held same down leads leaves counts does breaks = record {
   ok = ends-ok r s same (λ (d : Does cold_kit event old new before after). does-down next event old new before after held down leads leaves counts d) does;
-  stands = ends-ok r s same (λ (d : Does cold_kit event old new before after). does-stands event old new before after held leaves has d) does;
+  stands = λ has. ends-ok r s same (λ (d : Does cold_kit event old new before after). does-stands event old new before after held leaves has d) does;
   broken = ends-broken cold_kit cold_laws cold_script cold_follows r s next old new before after held same breaks;
   counts = ends-counts cold_kit cold_laws r s held same;
 }
@@ -171,9 +170,9 @@ delivers-ignored place old before after asking lines setup state good shows =
     subst (λ (o : Outcome (State Alone)). Happened cold_kit setup o old before after)
     (sym (ignored-down setup place (posting_at place state.world.net) state some)) (shows, good, lines)
 
-pub deliver-line : {T E : Type 0} (r : Result T E) (s : Result T DiskAnswer) (place : ℕ) (old new : Cluster Solo) (before after : List (List ℕ)) (held : ColdSeen) → EndsAs r s → HasStateOn cold_kit any_state old held → AreDown old → OnOk r (Does cold_kit (down_delivered place) old new before after) → OnErr r (BreaksAlone cold_kit old new) → PlaysDownLine s (line.Deliver place) old new before after held held
-deliver-line r s place old new before after held same has down does breaks =
-    down-alone r s (line.Deliver place) (down_delivered place) old new before after held same has down (λ setup shelf state. refl) (deliver-leaves place) (λ setup state beside. idle-same held) does breaks
+pub deliver-line : {T E : Type 0} (r : Result T E) (s : Result T DiskAnswer) (place : ℕ) (old new : Cluster Solo) (before after : List (List ℕ)) (held : ColdSeen) → EndsAs r s → AllDown old → OnOk r (Does cold_kit (down_delivered place) old new before after) → OnErr r (BreaksAlone cold_kit old new) → PlaysDownLine s (line.Deliver place) old new before after held held
+deliver-line r s place old new before after held same down does breaks =
+    down-alone r s (line.Deliver place) (down_delivered place) old new before after held same down (λ setup shelf state. refl) (deliver-leaves place) (λ setup state beside. idle-same held) does breaks
 
 -- **`resend`**
 
@@ -215,9 +214,9 @@ pub resends-down : (client at : ℕ) (old : Cluster Solo) (agent : Seen) (messag
 resends-down client at old agent messages before after found is are ignores setup state good shows =
     resends-so client old messages before after setup state good shows (resent-by cold_kit cold_laws client at old agent messages found is are setup state shows) ignores
 
-pub resend-line : {T E : Type 0} (r : Result T E) (s : Result T DiskAnswer) (client : ℕ) (old new : Cluster Solo) (before after : List (List ℕ)) (held : ColdSeen) → EndsAs r s → HasStateOn cold_kit any_state old held → AreDown old → OnOk r (Does cold_kit (down_resent client) old new before after) → OnErr r (BreaksAlone cold_kit old new) → PlaysDownLine s (line.Resend client) old new before after held held
-resend-line r s client old new before after held same has down does breaks =
-    down-alone r s (line.Resend client) (down_resent client) old new before after held same has down (λ setup shelf state. refl) (resend-leaves client) (λ setup state beside. idle-same held) does breaks
+pub resend-line : {T E : Type 0} (r : Result T E) (s : Result T DiskAnswer) (client : ℕ) (old new : Cluster Solo) (before after : List (List ℕ)) (held : ColdSeen) → EndsAs r s → AllDown old → OnOk r (Does cold_kit (down_resent client) old new before after) → OnErr r (BreaksAlone cold_kit old new) → PlaysDownLine s (line.Resend client) old new before after held held
+resend-line r s client old new before after held same down does breaks =
+    down-alone r s (line.Resend client) (down_resent client) old new before after held same down (λ setup shelf state. refl) (resend-leaves client) (λ setup state beside. idle-same held) does breaks
 
 -- a client without an agent sends nothing
 pub resends-none : (client : ℕ) (old : Cluster Solo) (before : List (List ℕ)) → IsAbsent client old.agents → Does cold_kit (down_resent client) old old before before
@@ -247,9 +246,9 @@ ignores-more messages front message net before between after place is so_far num
 
 -- **what is refused**
 
-pub down-refused : {T E : Type 0} (r : Result T E) (s : Result T DiskAnswer) (next : Line) (old : Cluster Solo) (before after : List (List ℕ)) (held : ColdSeen) → shows_files next ≡ false → EndsAs r s → HasStateOn cold_kit any_state old held → AreDown old → LeadsDown next (refused cold_kit next) → OnOk r (Does cold_kit (refused cold_kit next) old old before after) → OnErr r (BreaksAlone cold_kit old old) → PlaysDownLine s next old old before after held held
-down-refused r s next old before after held unshown same has down leads does breaks =
-    down-alone r s next (refused cold_kit next) old old before after held same has down leads (λ setup state. record { armed = λ seen told. told; tells = λ seen told. told })
+pub down-refused : {T E : Type 0} (r : Result T E) (s : Result T DiskAnswer) (next : Line) (old : Cluster Solo) (before after : List (List ℕ)) (held : ColdSeen) → shows_files next ≡ false → EndsAs r s → AllDown old → LeadsDown next (refused cold_kit next) → OnOk r (Does cold_kit (refused cold_kit next) old old before after) → OnErr r (BreaksAlone cold_kit old old) → PlaysDownLine s next old old before after held held
+down-refused r s next old before after held unshown same down leads does breaks =
+    down-alone r s next (refused cold_kit next) old old before after held same down leads (λ setup state. record { armed = λ seen told. told; tells = λ seen told. told })
     (λ setup state beside. refused-counts next setup state held unshown beside) does breaks
 
 pub leads-refused : (next : Line) → IsDownLine next → ((place : ℕ) → next ≡ line.Deliver place → ⊥) → ((client : ℕ) → next ≡ line.Resend client → ⊥) → (next ≡ line.Files → ⊥) → ((name : List ℕ) → next ≡ line.Cat name → ⊥) → (next ≡ line.Disarm → ⊥) → LeadsDown next (refused cold_kit next)
@@ -272,8 +271,8 @@ leads-refused _ is no_deliver no_resend no_files no_cat no_disarm = absurd is
 
 -- **`disarm`**
 
-pub disarm-down : {T : Type 0} (x : T) (old new : Cluster Solo) (lines : List (List ℕ)) (held left : ColdSeen) → HasStateOn cold_kit any_state old held → AreDown old → DoesOn cold_kit cold_script line.Disarm disarmed_both old new lines lines held left → PlaysDownLine {T = T} (Ok x) line.Disarm old new lines lines held left
-disarm-down x old new lines held left has down does = record {
+pub disarm-down : {T : Type 0} (x : T) (old new : Cluster Solo) (lines : List (List ℕ)) (held left : ColdSeen) → AllDown old → DoesOn cold_kit cold_script line.Disarm disarmed_both old new lines lines held left → Outlives held left → PlaysDownLine {T = T} (Ok x) line.Disarm old new lines lines held left
+disarm-down x old new lines held left down does outlives = record {
   ok = λ setup state good shows count.
       let done = does setup state good shows count in
       let shelf = told-shelf setup held.disk.files in
@@ -287,16 +286,16 @@ disarm-down x old new lines held left has down does = record {
         count = done.1;
         files = done.2;
       };
-  stands =
+  stands = λ has.
       let done = does has.setup has.state has.good has.shows has.count in
       record { setup = has.setup; state = (disarmed_both has.setup has.state).state; good = done.0.1; shows = done.0.0; count = done.1; so = tt };
   broken = tt;
-  counts = idle-outlives held left ((does has.setup has.state has.good has.shows has.count).3.counts (beside-of old held has));
+  counts = outlives;
 }
 
 -- **files are shown**
 
-shown-down : (next : Line) (event : Setup → Shelf → State Alone → Outcome (State Alone)) (old : Cluster Solo) (before after : List (List ℕ)) (one two beside : DiskSeen) → AreDown old
+shown-down : (next : Line) (event : Setup → Shelf → State Alone → Outcome (State Alone)) (old : Cluster Solo) (before after : List (List ℕ)) (one two beside : DiskSeen) → AllDown old
     → ((setup : Setup) (shelf : Shelf) (state : State Alone) → HappensDown (plain_of setup) shelf (calm_device setup) next state (event setup shelf state))
     → ((setup : Setup) (shelf : Shelf) (state : State Alone) → LeavesAlone cold_kit cold_laws setup state (event setup shelf state))
     → ((setup : Setup) (now then : State Alone) → CountsLine next setup now then (record { disk = one; journal = beside }) (record { disk = two; journal = beside }))
@@ -318,25 +317,25 @@ shown-down next event old before after one two beside down leads leaves counts r
       files = λ tells. cold_laws.read_left setup last one two beside read (left.tells held tells);
     }
 
-pub files-down : {T : Type 0} (r : Result T DiskAnswer) (old : Cluster Solo) (before after : List (List ℕ)) (one two beside : DiskSeen) → HasStateOn cold_kit any_state old (record { disk = one; journal = beside }) → AreDown old
+pub files-down : {T : Type 0} (r : Result T DiskAnswer) (old : Cluster Solo) (before after : List (List ℕ)) (one two beside : DiskSeen) → AllDown old
     → OnOk r (ShowsOn cold_kit (files_listed cold_kit) old before after one.files) → (IsErrOf r Failed → after ≡ before) → two.files ≡ one.files → RoseExactlyOn one.faults two.faults r Failed → (IsErrOf r Stopped → ⊥) → two.stops ≡ one.stops → Looks (ListCalls one.files) (is_ok r) one.tally two.tally
     → PlaysDownLine r line.Files old old before after (record { disk = one; journal = beside }) (record { disk = two; journal = beside })
-files-down {T} r old before after one two beside has down shows stays same cause never stops looks =
+files-down {T} r old before after one two beside down shows stays same cause never stops looks =
     let read = looked-read one two (ListCalls one.files) (is_ok r) same stops looks in
     let told : is_ok r ≡ true → LooksBy line.Files one.files true one.tally two.tally = λ done. subst (λ (b : Bool). LooksBy line.Files one.files b one.tally two.tally) done looks in
     record {
       ok = (shown-ok cold_kit cold_laws) {P = PlaysDown line.Files old old before after (record { disk = one; journal = beside }) (record { disk = two; journal = beside })} r one two cause
           (λ done faults shown. shown-down line.Files (files_listed cold_kit) old before after one two beside down (λ setup shelf state. refl) (λ setup shelf state. record { armed = λ seen held. held; tells = λ seen held. held })
           (λ setup now then. record { looks = told done; disk = record { changing = read.changing; faults = faults; stops = read.stops }; journal = refl }) read shown) shows;
-      stands = on-ok r ((read-stands cold_kit cold_laws) old one two beside read has);
+      stands = λ has. on-ok r ((read-stands cold_kit cold_laws) old one two beside read has);
       broken = (files-broken cold_kit cold_laws cold_script cold_follows) r line.Files old before after one two beside refl read cause stays never;
       counts = (shown-counts cold_kit cold_laws) r one two beside read cause never;
     }
 
-pub cat-down : {T : Type 0} (r : Result T DiskAnswer) (name : List ℕ) (old : Cluster Solo) (before after : List (List ℕ)) (one two beside : DiskSeen) → HasStateOn cold_kit any_state old (record { disk = one; journal = beside }) → AreDown old
+pub cat-down : {T : Type 0} (r : Result T DiskAnswer) (name : List ℕ) (old : Cluster Solo) (before after : List (List ℕ)) (one two beside : DiskSeen) → AllDown old
     → OnOk r (ShowsOn cold_kit (file_shown cold_kit name) old before after one.files) → (IsErrOf r Failed → after ≡ before) → two.files ≡ one.files → RoseExactlyOn one.faults two.faults r Failed → (IsErrOf r Stopped → ⊥) → two.stops ≡ one.stops → Looks (FileCalls name one.files) (is_ok r) one.tally two.tally
     → PlaysDownLine r (line.Cat name) old old before after (record { disk = one; journal = beside }) (record { disk = two; journal = beside })
-cat-down {T} r name old before after one two beside has down shows stays same cause never stops looks =
+cat-down {T} r name old before after one two beside down shows stays same cause never stops looks =
     let read = looked-read one two (FileCalls name one.files) (is_ok r) same stops looks in
     let told : is_ok r ≡ true → LooksBy (line.Cat name) one.files true one.tally two.tally = λ done. subst (λ (b : Bool). LooksBy (line.Cat name) one.files b one.tally two.tally) done looks in
     record {
@@ -344,7 +343,7 @@ cat-down {T} r name old before after one two beside has down shows stays same ca
           (λ done faults shown. shown-down (line.Cat name) (file_shown cold_kit name) old before after one two beside down (λ setup shelf state. refl)
           (λ setup shelf state. let kept = (shows-keep cold_kit cold_laws) setup name shelf state in record { armed = kept.armed; tells = kept.tells })
           (λ setup now then. record { looks = told done; disk = record { changing = read.changing; faults = faults; stops = read.stops }; journal = refl }) read shown) shows;
-      stands = on-ok r ((read-stands cold_kit cold_laws) old one two beside read has);
+      stands = λ has. on-ok r ((read-stands cold_kit cold_laws) old one two beside read has);
       broken = (cat-broken cold_kit cold_laws cold_script cold_follows) r (line.Cat name) name old before after one two beside refl read cause stays never;
       counts = (shown-counts cold_kit cold_laws) r one two beside read cause never;
     }

@@ -4,6 +4,7 @@ mod ArmSteps
 mod BackState
 mod CountSteps
 mod DownSteps
+mod FitSteps
 mod HearState
 mod LeadState
 mod JoinFalls
@@ -13,9 +14,14 @@ mod LineSteps
 mod MarkSteps
 mod OwnLines
 mod OwnSteps
+mod PostSteps
 mod RangeSteps
 mod RestState
 mod RestartSteps
+mod SilentLines
+mod SilentStarts
+mod SilentSteps
+mod SilentWorlds
 mod StandingSteps
 mod WorkFalls
 mod WorkState

@@ -20,8 +20,7 @@ use Rattle.cluster_rounds.specs.Worlds.{Does, HasStateOn, IsGood, Shows, any_sta
 use Rattle.cluster_rounds.proofs.BrokenClients.{same-breaks}
 use Rattle.cluster_rounds.proofs.BrokenSteps.{shown-ends}
 use Rattle.cluster_lines.specs.Answers.{EndsAs}
-use Rattle.cluster_lines.specs.Lines.{IsOwn, shows_files}
-use Rattle.cluster_lines.specs.Playing.{SharesIn}
+use Rattle.cluster_lines.specs.Lines.{shows_files}
 use Rattle.cluster_lines.specs.Own.{DoesOn, PlaysLine}
 use Rattle.cluster_lines.specs.Shelves.{shelf_of}
 use Rattle.cluster_lines.specs.Showing.{refused}
@@ -38,7 +37,7 @@ use Rattle.cold_servers.specs.ColdNodes.{OwnBy, active_by, back_by, link_by, up_
 use Rattle.cold_servers.specs.ColdScript.{cold_follows, while-up}
 use Rattle.cold_servers.specs.ColdSeen.{ColdSeen}
 use Rattle.cold_servers.specs.CountLaws.{done-none, idle-same}
-use Rattle.cold_servers.specs.Steps.{AreUp, IsRefusedUp, disarmed_both, disk_armed, fell, journal_armed}
+use Rattle.cold_servers.specs.Steps.{AllUp, IsRefusedUp, disarmed_both, disk_armed, fell, journal_armed}
 use Rattle.cold_servers.proofs.AckState.{acks-left, acked_by, acks-happen, is-applied}
 use Rattle.cold_servers.proofs.AdvanceSteps.{back-off, stood-least}
 use Rattle.cold_servers.proofs.HearState.{is-idle}
@@ -60,7 +59,7 @@ refused-counts (line.Cat name) setup state seen unshown beside = cc
 refused-counts (line.Restart server) setup state seen unshown beside = same-back state.peers.up seen
 refused-counts _ setup state seen unshown beside = idle-same seen
 
-pub refused-line : {T E : Type 0} (r : Result T E) (s : Result T DiskAnswer) (next : Line) (old : Cluster Solo) (before after : List (List ℕ)) (held : ColdSeen) → shows_files next ≡ false → EndsAs r s → HasStateOn cold_kit any_state old held → AreUp old → IsRefusedUp next old → OnOk r (Does cold_kit (refused cold_kit next) old old before after) → PlaysLine cold_kit cold_script s next old old before after held held
+pub refused-line : {T E : Type 0} (r : Result T E) (s : Result T DiskAnswer) (next : Line) (old : Cluster Solo) (before after : List (List ℕ)) (held : ColdSeen) → shows_files next ≡ false → EndsAs r s → HasStateOn cold_kit any_state old held → AllUp old → IsRefusedUp next old → OnOk r (Does cold_kit (refused cold_kit next) old old before after) → PlaysLine cold_kit cold_script s next old old before after held held
 refused-line r s next old before after held unshown same has up refuses does =
     alone-line cold_kit cold_laws cold_script cold_follows r s next (refused cold_kit next) old old before after held same has
     (λ setup state good shows count. while-up (plain_of setup) (shelf_of setup) _ state (refused cold_kit next setup state) next (up setup state good shows) (refuses setup state good shows (shelf_of setup) _))
@@ -70,7 +69,7 @@ refused-line r s next old before after held unshown same has up refuses does =
 
 -- Which lines are refused.
 
-module _ (old : Cluster Solo) (up : AreUp old) where
+module _ (old : Cluster Solo) (up : AllUp old) where
   own-so : (setup : Setup) (state : State Alone) → IsGood cold_kit setup state → Shows cold_kit setup state old → old.servers.lone ≡ up_by setup state.world.core.answered state.world.core.hand state.peers
   own-so setup state good shows =
       subst (λ (b : Bool). OwnBy b setup state.world.core.answered state.world.core.hand state.peers old.servers.lone) (up setup state good shows) shows.own
@@ -130,7 +129,7 @@ module _ (old : Cluster Solo) (up : AreUp old) where
 
 -- **`ack`**, where it is heard that the entry joined
 
-pub ack-line : {T : Type 0} (x : T) (old : Cluster Solo) (servers : Lone) (lines : List (List ℕ)) (held : ColdSeen) → HasStateOn cold_kit any_state old held → AreUp old → (heard : Bool) → (old.servers.lone.back ≡ [] → ⊥) → HearsBack heard old.servers.lone servers → PlaysLine {T = T} cold_kit cold_script (Ok x) line.Ack old (record old { servers = record { lone = servers } }) lines lines held held
+pub ack-line : {T : Type 0} (x : T) (old : Cluster Solo) (servers : Lone) (lines : List (List ℕ)) (held : ColdSeen) → HasStateOn cold_kit any_state old held → AllUp old → (heard : Bool) → (old.servers.lone.back ≡ [] → ⊥) → HearsBack heard old.servers.lone servers → PlaysLine {T = T} cold_kit cold_script (Ok x) line.Ack old (record old { servers = record { lone = servers } }) lines lines held held
 ack-line x old servers lines held has up false some hears = absurd (some hears.0)
 ack-line x old servers lines held has up true some hears =
     disk-line cold_kit cold_laws cold_script cold_follows (Ok x) line.Ack acked_by old (record old { servers = record { lone = servers } }) lines lines held held has
@@ -181,13 +180,13 @@ idle-outlives held left idle = record {
 pub beside-of : (old : Cluster Solo) (held : ColdSeen) → (has : HasStateOn cold_kit any_state old held) → IsBeside has.state.peers.mirrored
 beside-of old held has = has.good.steady.good.1
 
-crash-done : {T : Type 0} (x : T) (old new : Cluster Solo) (before after : List (List ℕ)) (held left : ColdSeen) → HasStateOn cold_kit any_state old held → AreUp old → DoesOn cold_kit cold_script (line.Crash A) fell old new before after held left → PlaysLine {T = T} cold_kit cold_script (Ok x) (line.Crash A) old new before after held left
+crash-done : {T : Type 0} (x : T) (old new : Cluster Solo) (before after : List (List ℕ)) (held left : ColdSeen) → HasStateOn cold_kit any_state old held → AllUp old → DoesOn cold_kit cold_script (line.Crash A) fell old new before after held left → PlaysLine {T = T} cold_kit cold_script (Ok x) (line.Crash A) old new before after held left
 crash-done x old new before after held left has up does =
     disk-line cold_kit cold_laws cold_script cold_follows (Ok x) (line.Crash A) fell old new before after held left has
     (λ setup state good shows count. while-up (plain_of setup) (shelf_of setup) _ state (fell setup state) (line.Crash A) (up setup state good shows) refl)
     does tt (idle-outlives held left ((does has.setup has.state has.good has.shows has.count).3.counts (beside-of old held has)))
 
-pub crash-line : {T E : Type 0} (r : Result T E) (s : Result T DiskAnswer) (old new : Cluster Solo) (before after : List (List ℕ)) (held left : ColdSeen) → EndsAs r s → HasStateOn cold_kit any_state old held → AreUp old → OnOk r (DoesOn cold_kit cold_script (line.Crash A) fell old new before after held left) → OnErr r ((new ≡ old) × (left ≡ held)) → PlaysLine cold_kit cold_script s (line.Crash A) old new before after held left
+pub crash-line : {T E : Type 0} (r : Result T E) (s : Result T DiskAnswer) (old new : Cluster Solo) (before after : List (List ℕ)) (held left : ColdSeen) → EndsAs r s → HasStateOn cold_kit any_state old held → AllUp old → OnOk r (DoesOn cold_kit cold_script (line.Crash A) fell old new before after held left) → OnErr r ((new ≡ old) × (left ≡ held)) → PlaysLine cold_kit cold_script s (line.Crash A) old new before after held left
 crash-line {T} {E} r s old new before after held left same has up does kept =
     unchanged-line r s (line.Crash A) old new before after held left same (done r s same does) kept
   where
@@ -198,31 +197,20 @@ crash-line {T} {E} r s old new before after held left same has up does kept =
 
 -- **disks are armed, and disarmed**
 
-pub arm-disk-line : {T : Type 0} (x : T) (count : ℕ) (old new : Cluster Solo) (lines : List (List ℕ)) (held left : ColdSeen) → 1 ≤ count → HasStateOn cold_kit any_state old held → AreUp old → DoesOn cold_kit cold_script (line.Arm A count) (disk_armed count) old new lines lines held left → PlaysLine {T = T} cold_kit cold_script (Ok x) (line.Arm A count) old new lines lines held left
+pub arm-disk-line : {T : Type 0} (x : T) (count : ℕ) (old new : Cluster Solo) (lines : List (List ℕ)) (held left : ColdSeen) → 1 ≤ count → HasStateOn cold_kit any_state old held → AllUp old → DoesOn cold_kit cold_script (line.Arm A count) (disk_armed count) old new lines lines held left → PlaysLine {T = T} cold_kit cold_script (Ok x) (line.Arm A count) old new lines lines held left
 arm-disk-line x count old new lines held left some has up does =
     disk-line cold_kit cold_laws cold_script cold_follows (Ok x) (line.Arm A count) (disk_armed count) old new lines lines held left has
     (λ setup state good shows counted. while-up (plain_of setup) (shelf_of setup) _ state (disk_armed count setup state) (line.Arm A count) (up setup state good shows) (some, refl))
     does tt (idle-outlives held left ((does has.setup has.state has.good has.shows has.count).3.counts (beside-of old held has)))
 
-pub arm-journal-line : {T : Type 0} (x : T) (count : ℕ) (old new : Cluster Solo) (lines : List (List ℕ)) (held left : ColdSeen) → 1 ≤ count → HasStateOn cold_kit any_state old held → AreUp old → DoesOn cold_kit cold_script (line.Arm B count) (journal_armed count) old new lines lines held left → PlaysLine {T = T} cold_kit cold_script (Ok x) (line.Arm B count) old new lines lines held left
+pub arm-journal-line : {T : Type 0} (x : T) (count : ℕ) (old new : Cluster Solo) (lines : List (List ℕ)) (held left : ColdSeen) → 1 ≤ count → HasStateOn cold_kit any_state old held → AllUp old → DoesOn cold_kit cold_script (line.Arm B count) (journal_armed count) old new lines lines held left → PlaysLine {T = T} cold_kit cold_script (Ok x) (line.Arm B count) old new lines lines held left
 arm-journal-line x count old new lines held left some has up does =
     disk-line cold_kit cold_laws cold_script cold_follows (Ok x) (line.Arm B count) (journal_armed count) old new lines lines held left has
     (λ setup state good shows counted. while-up (plain_of setup) (shelf_of setup) _ state (journal_armed count setup state) (line.Arm B count) (up setup state good shows) (some, refl))
     does tt (idle-outlives held left ((does has.setup has.state has.good has.shows has.count).3.counts (beside-of old held has)))
 
-pub disarm-line : {T : Type 0} (x : T) (old new : Cluster Solo) (lines : List (List ℕ)) (held left : ColdSeen) → HasStateOn cold_kit any_state old held → AreUp old → DoesOn cold_kit cold_script line.Disarm disarmed_both old new lines lines held left → PlaysLine {T = T} cold_kit cold_script (Ok x) line.Disarm old new lines lines held left
+pub disarm-line : {T : Type 0} (x : T) (old new : Cluster Solo) (lines : List (List ℕ)) (held left : ColdSeen) → HasStateOn cold_kit any_state old held → AllUp old → DoesOn cold_kit cold_script line.Disarm disarmed_both old new lines lines held left → PlaysLine {T = T} cold_kit cold_script (Ok x) line.Disarm old new lines lines held left
 disarm-line x old new lines held left has up does =
     disk-line cold_kit cold_laws cold_script cold_follows (Ok x) line.Disarm disarmed_both old new lines lines held left has
     (λ setup state good shows count. while-up (plain_of setup) (shelf_of setup) _ state (disarmed_both setup state) line.Disarm (up setup state good shows) refl)
     does tt (idle-outlives held left ((does has.setup has.state has.good has.shows has.count).3.counts (beside-of old held has)))
-
--- the servers' own lines are played while the server is up
-pub own-up : (next : Line) (old : Cluster Solo) → IsOwn cold_script next → SharesIn cold_kit cold_script next old → AreUp old
-own-up line.Mirror old own shares setup state good shows = shares setup state good shows
-own-up line.Ack old own shares setup state good shows = shares setup state good shows
-own-up line.Work old own shares setup state good shows = shares setup state good shows
-own-up (line.Crash server) old own shares setup state good shows = shares setup state good shows
-own-up (line.Arm server count) old own shares setup state good shows = shares setup state good shows
-own-up line.Disarm old own shares setup state good shows = shares setup state good shows
-own-up (line.Restart server) old own shares setup state good shows = shares setup state good shows
-own-up _ old own shares setup state good shows = absurd own

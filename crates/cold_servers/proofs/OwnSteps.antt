@@ -37,7 +37,7 @@ use Rattle.cold_servers.specs.declared.solo.Solo.{Solo}
 use Rattle.cold_servers.specs.ColdKit.{cold_kit, cold_script}
 use Rattle.cold_servers.specs.ColdNodes.{OwnBy}
 use Rattle.cold_servers.specs.ColdSeen.{ColdSeen}
-use Rattle.cold_servers.specs.Steps.{AreUp}
+use Rattle.cold_servers.specs.Steps.{AllUp}
 use Rattle.cold_servers.proofs.AdvanceSteps.{join-counts, work-counts}
 use Rattle.cold_servers.proofs.CountSteps.{rose-by, stands-done}
 use Rattle.cold_servers.proofs.JoinFalls.{joins-end, joins-halts, waiting-entry}
@@ -83,7 +83,7 @@ joined-quiet setup fails state entry cold up waits =
     let Q : State Alone → Type 0 = λ s. kept_lines (mirror_next (servers_at cold_kit setup fails) s).told ≡ printed (mirror_next (servers_at cold_kit setup fails) s).told in
     subst Q (is-waiting state entry cold up waits) refl
 
-module _ (old : Cluster Solo) (servers : Lone) (history : Pushed) (before after : List (List ℕ)) (held left : ColdSeen) (has : HasStateOn cold_kit any_state old held) (up : AreUp old) where
+module _ (old : Cluster Solo) (servers : Lone) (history : Pushed) (before after : List (List ℕ)) (held left : ColdSeen) (has : HasStateOn cold_kit any_state old held) (up : AllUp old) where
   abbrev joined : Cluster Solo
   joined = record old { servers = record { lone = servers }; history = history }
 
@@ -169,7 +169,7 @@ worked-quiet setup fails state entry cold up ready =
     subst Q (is-ready state entry cold up ready)
     (subst R (sym (work-is setup fails state.world entry cold.1.keeps state.peers.armed state.peers.beside)) (answer-quiet setup state.world.core.answered entry state.world.net).lines)
 
-module _ (T : Type 0) (old : Cluster Solo) (servers : Lone) (net before after : List (List ℕ)) (held left : ColdSeen) (has : HasStateOn cold_kit any_state old held) (up : AreUp old) (some : IsSome old.servers.lone.node.replica.owed) (none : old.servers.lone.node.waits ≡ None) where
+module _ (T : Type 0) (old : Cluster Solo) (servers : Lone) (net before after : List (List ℕ)) (held left : ColdSeen) (has : HasStateOn cold_kit any_state old held) (up : AllUp old) (some : IsSome old.servers.lone.node.replica.owed) (none : old.servers.lone.node.waits ≡ None) where
   abbrev new : Cluster Solo
   new = record old { servers = record { lone = servers }; net = net }
 

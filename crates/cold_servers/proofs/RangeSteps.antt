@@ -26,7 +26,7 @@ use Rattle.cold_servers.specs.ColdNodes.{OwnBy, back_by, link_by, up_by}
 use Rattle.cold_servers.proofs.WorkState.{ready-so}
 
 -- an entry is spelled within the ranges of its message
-mirror-range : (number : ℕ) (entry : Entry) → MessageInRange (message_of entry) → MessageInRange (wire.Mirror number entry)
+pub mirror-range : (number : ℕ) (entry : Entry) → MessageInRange (message_of entry) → MessageInRange (wire.Mirror number entry)
 mirror-range number (Called client seq time call) range = range
 mirror-range number (Receipted client key through time) range = range
 

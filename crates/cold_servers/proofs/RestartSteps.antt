@@ -1,6 +1,9 @@
 -- A start of the server that is down: what it comes to, by the answers of what it calls.
 use Rattle.std.proofs.Common.{◌≡◌, ◌⊎◌, inl, inr, ℕ, Bool, true, false, ◌||◌, Option, Some, None, option_map, List, [], ◌∷◌, ◌++◌, length, refl, ap, sym, subst, ◌∙◌, arith, append-nil, length-append}
-use Rattle.std.specs.Prelude.{is_some, IfSome, IsSome, IsErrOf, Result, Ok, Err}
+use Rattle.std.specs.Prelude.{is_some, reverse, IfSome, IsSome, IsErrOf, Result, Ok, Err}
+use Rattle.std.specs.FinMap.{get}
+use Rattle.std.specs.Option.{option_map_or}
+use Rattle.std.proofs.lemmas.List.{reverse-reverse}
 use Rattle.calls.specs.History.{Pushed}
 use Rattle.disk_model.specs.DeviceCalls.{DeviceCall, LeftOn, all_applied, applied}
 use Rattle.disk_model.specs.Disk.{File, Files}
@@ -24,7 +27,7 @@ use Rattle.cluster_facts.specs.Storage.Attempts.{more as one_more_attempt}
 use Rattle.cluster_events.specs.Outcomes.{Outcome, quietly}
 use Rattle.cluster_events.specs.Running.{Shelf}
 use Rattle.cluster_events.specs.Servers.{State}
-use Rattle.journal_frames.specs.Frames.{IsShort, journal_of}
+use Rattle.journal_frames.specs.Frames.{HasFile, IsShort, journal_name, journal_of}
 use Rattle.journal_frames.specs.Staging.{HasStaged, Keeps}
 use Rattle.wire.specs.MessageSpelling.{message_text}
 use Rattle.journal_found.specs.Found.{Follower, Found, JournalOf, follower_of, last_deeds, messages_of, next_message, texts_of}
@@ -60,8 +63,8 @@ use Rattle.cold_servers.specs.ColdKit.{cold_kit, cold_script}
 use Rattle.cold_servers.specs.ColdLaws.{cold_laws, files-between}
 use Rattle.cold_servers.specs.ColdNodes.{IsFallen, OwnBy}
 use Rattle.cold_servers.specs.ColdSeen.{ColdSeen, HoldsFiles, HoldsJournal, JournalBetween, LeavesTold, TellsBoth}
-use Rattle.cold_servers.specs.Down.{BetweenFound, CountsStart, FilesFound, JournalFound, PlayedDown, PlaysRestart, RestartBreaks, restart_kit}
-use Rattle.cold_servers.specs.Steps.{AreDown}
+use Rattle.cold_servers.specs.Down.{BetweenFound, CountsStart, FilesFound, IsFound, JournalFound, PlayedDown, PlaysRestart, RestartBreaks, restart_kit}
+use Rattle.cold_servers.specs.Steps.{AllDown}
 use Rattle.cold_servers.proofs.ArmSteps.{armed-kept, kept-told}
 use Rattle.cold_servers.proofs.BackState.{BackAt, KeepsStaged, comes-back, more-redo, staged-found, still-told, whole-found, whole-staged}
 
@@ -234,6 +237,20 @@ module _ (setup : Setup) (state : State Alone) (old : Cluster Solo) (held left :
       go (Applied entry) is now_legal holds = whole (entry ∷ past) (ap (committed_by past) is) now_legal holds
       go (Ready entry) is now_legal holds = whole (entry ∷ past) (ap (committed_by past) is) now_legal holds
 
+  -- what is found is a history
+  pub found-so : (late : List Entry) (follower : Follower) (bytes : List ℕ) (found : Found bytes late follower) → Some bytes ≡ bytes_in journal → (history : List Entry) × IsHistoryFound setup history found
+  found-so late follower bytes found read = go hand refl legal journal-held
+    where
+      go : (now : Hand) → hand ≡ now → IsHistory setup (accepted_by past now) → HoldsJournal false setup past now journal → (history : List Entry) × IsHistoryFound setup history found
+      go Empty is now_legal holds = (past, whole-found setup past journal bytes late follower found now_legal holds read)
+      go (Waiting entry) is now_legal (inl has) = (past, whole-found setup past journal bytes late follower found now_legal.1 has read)
+      go (Waiting entry) is now_legal (inr staged) = elim (staged-found setup past entry journal bytes late follower found now_legal staged read) [
+        | inl found_so ↦ (past, found_so)
+        | inr found_so ↦ (entry ∷ past, found_so)
+      ]
+      go (Applied entry) is now_legal holds = (entry ∷ past, whole-found setup (entry ∷ past) journal bytes late follower found now_legal holds read)
+      go (Ready entry) is now_legal holds = (entry ∷ past, whole-found setup (entry ∷ past) journal bytes late follower found now_legal holds read)
+
   abbrev Read : List ℕ → Type 0
   Read bytes = IfSome held.journal.files (λ files. Some bytes ≡ bytes_in files)
 
@@ -343,7 +360,7 @@ some-told : (held : Option Files) → IsSome held → (files : Files) × (held �
 some-told None some = cc
 some-told (Some files) some = (files, refl)
 
-module _ (old new : Cluster Solo) (before after : List (List ℕ)) (held left : ColdSeen) (down : AreDown old) (same : new ≡ old) (keeps : KeepsStaged held.journal.files left.journal.files) (leaves : LeavesFound held.journal.files held.disk.files left.disk.files) (unarmed_disk : held.disk.tally.armed ≡ None → left.disk.tally.armed ≡ None) (unarmed_journal : held.journal.tally.armed ≡ None → left.journal.tally.armed ≡ None) where
+module _ (old new : Cluster Solo) (before after : List (List ℕ)) (held left : ColdSeen) (down : AllDown old) (same : new ≡ old) (keeps : KeepsStaged held.journal.files left.journal.files) (leaves : LeavesFound held.journal.files held.disk.files left.disk.files) (unarmed_disk : held.disk.tally.armed ≡ None → left.disk.tally.armed ≡ None) (unarmed_journal : held.journal.tally.armed ≡ None → left.journal.tally.armed ≡ None) where
   fallen-so : (setup : Setup) (state : State Alone) → IsGood cold_kit setup state → Shows cold_kit setup state old → IsFallen state.peers old.servers.lone
   fallen-so setup state good shows =
       subst (λ (b : Bool). OwnBy b setup state.world.core.answered state.world.core.hand state.peers old.servers.lone) (down setup state good shows) shows.own
@@ -438,9 +455,17 @@ module _ (old new : Cluster Solo) (before after : List (List ℕ)) (held left : 
       in
       never-refused told.0 place is (subst (λ (h : Option Files). IfSome h (λ files. IsRefusedIn (bytes_in files) place)) told.1 (refused place refl))
 
+-- the file of these bytes
+file-in : (P : List ℕ → Type 0) (files : Files) (bytes : List ℕ) → Some bytes ≡ bytes_in files → P bytes → HasFile journal_name (λ file. P file.bytes) files
+file-in P files bytes read is = by-file (get files journal_name) refl read
+  where
+    by-file : (found : Option File) → get files journal_name ≡ found → Some bytes ≡ option_map (λ (file : File). file.bytes) found → HasFile journal_name (λ file. P file.bytes) files
+    by-file None at told = cc
+    by-file (Some file) at told = (file, at, subst P (ap (λ (o : Option (List ℕ)). option_map_or (λ (l : List ℕ). l) o bytes) told) is)
+
 -- Of one that was done.
 
-module _ (old : Cluster Solo) (servers : Lone) (history : Pushed) (between : List (List ℕ)) (held left : ColdSeen) (down : AreDown old) (comes : ComesBack old.servers.lone servers old.history.entries history.entries [] between held.journal.files left.journal.files held.disk.files left.disk.files) (keeps : KeepsStaged held.journal.files left.journal.files) (arms : StopsByArms {T = Unit {0}} held.journal left.journal held.disk left.disk (Ok tt)) (stood : Stood held left) where
+module _ (old : Cluster Solo) (servers : Lone) (history : Pushed) (between : List (List ℕ)) (held left : ColdSeen) (down : AllDown old) (comes : ComesBack old.servers.lone servers old.history.entries history.entries [] between held.journal.files left.journal.files held.disk.files left.disk.files) (keeps : KeepsStaged held.journal.files left.journal.files) (arms : StopsByArms {T = Unit {0}} held.journal left.journal held.disk left.disk (Ok tt)) (stood : Stood held left) where
   abbrev new : Cluster Solo
   new = record old { servers = record { lone = servers }; history = history }
 
@@ -449,10 +474,30 @@ module _ (old : Cluster Solo) (servers : Lone) (history : Pushed) (between : Lis
       let told = some-told held.journal.files some in
       comes-back setup state old servers history [] between held left told.0 good shows (down setup state good shows) count tells told.1 comes keeps arms.unarmed_too arms.unarmed
 
+  -- the history is what was found
+  found-at : (setup : Setup) (state : State Alone) → IsGood cold_kit setup state → Shows cold_kit setup state old → TellsBoth setup state held → IsSome held.journal.files → (now : State Alone) → Shows cold_kit setup now new → IsFound setup (committed now.world.core) held.journal.files
+  found-at setup state good shows tells some now shown =
+      let told = some-told held.journal.files some in
+      let journal = told.0 in
+      let started = comes.started in
+      let history = committed now.world.core in
+      let read : Some started.bytes ≡ bytes_in journal = subst (λ (h : Option Files). IfSome h (λ files. Some started.bytes ≡ bytes_in files)) told.1 started.read in
+      let so = found-so setup state old held left journal good told.1 tells (down setup state good shows) keeps started.past started.follower started.bytes started.found read in
+      let past : started.past ≡ history =
+      sym (comes.installs.tells.history ∙ ap reverse started.entries ∙ reverse-reverse started.past) ∙ shown.history
+      in
+      let follower : started.follower ≡ follower_of setup history = so.1.server ∙ ap (follower_of setup) (sym so.1.entries ∙ past) in
+      let found : Found started.bytes history (follower_of setup history) =
+      subst (λ (f : Follower). Found started.bytes history f) follower (subst (λ (p : List Entry). Found started.bytes p started.follower) past started.found)
+      in
+      subst (λ (h : Option Files). IfSome h (HasFile journal_name (λ file. Found file.bytes history (follower_of setup history)))) (sym told.1)
+      (file-in (λ (bytes : List ℕ). Found bytes history (follower_of setup history)) journal started.bytes read found)
+
   pub start-plays : (before after : List (List ℕ)) → after ≡ before ++ between → PlaysRestart old new before after held left
   start-plays before after lines setup state good shows count tells some =
       let back = back-so setup state good shows count tells some in
-      back-played setup state new before between after held left back.0 (down setup state good shows) back.1 lines stood
+      let played = back-played setup state new before between after held left back.0 (down setup state good shows) back.1 lines stood in
+      (played, found-at setup state good shows tells some played.outcome.state played.is.0)
 
   -- memory was wanting for its lines
   pub start-untold : (before after : List (List ℕ)) → RestartBreaks Memory old new before after held left

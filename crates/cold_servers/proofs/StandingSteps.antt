@@ -10,7 +10,8 @@ use Rattle.cluster_events.specs.declared.lines.Roles.TheVariants.{Two}
 use Rattle.cluster_events.specs.declared.lines.ServerRole.TheVariants as shown
 use Rattle.cluster_events.specs.Servers.{State}
 use Rattle.event_text.specs.Texts.{refused_line}
-use Rattle.mirror.specs.declared.heard.Role.TheVariants.{Active}
+use Rattle.mirror.specs.declared.heard.Role.{Role}
+use Rattle.mirror.specs.declared.heard.Role.TheVariants.{Active, Standby, Joining, Down}
 use Rattle.mirror.specs.declared.state.NodeState.{NodeState}
 use Rattle.mirror.specs.Replicas.{number_in_hand}
 use Rattle.mirror.proofs.ReplicaLaws.{count-is}
@@ -28,7 +29,7 @@ use Rattle.cold_servers.specs.declared.solo.Solo.{Solo}
 use Rattle.cold_servers.specs.ColdKit.{cold_kit}
 use Rattle.cold_servers.specs.ColdNodes.{IsFallen, OwnBy, active_by, up_by}
 use Rattle.cold_servers.specs.Standing.{standing_as}
-use Rattle.cold_servers.specs.Steps.{AreDown, AreUp}
+use Rattle.cold_servers.specs.Steps.{AllDown, AllUp, is_active}
 use Rattle.cold_servers.proofs.MarkSteps.{backs-are, links-are}
 
 -- the server that is up is active
@@ -95,13 +96,19 @@ inactive-down : (up : Bool) (setup : Setup) (past : List Entry) (hand : Hand) (p
 inactive-down true setup past hand peers servers own other = absurd (other (up-role setup past hand peers servers own))
 inactive-down false setup past hand peers servers own other = refl
 
-pub role-up : (world : Cluster Solo) → world.servers.lone.node.replica.role ≡ Active → AreUp world
+pub role-up : (world : Cluster Solo) → world.servers.lone.node.replica.role ≡ Active → AllUp world
 role-up world active setup state good shows =
     active-up state.peers.up setup state.world.core.answered state.world.core.hand state.peers world.servers.lone shows.own active
 
-pub role-down : (world : Cluster Solo) → (world.servers.lone.node.replica.role ≡ Active → ⊥) → AreDown world
+pub role-down : (world : Cluster Solo) → (world.servers.lone.node.replica.role ≡ Active → ⊥) → AllDown world
 role-down world other setup state good shows =
     inactive-down state.peers.up setup state.world.core.answered state.world.core.hand state.peers world.servers.lone shows.own other
+
+pub role-rests : (role : Role) → (role ≡ Active → ⊥) → is_active role ≡ false
+role-rests Active other = absurd (other refl)
+role-rests Standby other = refl
+role-rests Joining other = refl
+role-rests Down other = refl
 
 -- **what is shown of them**
 pub standing-is : (setup : Setup) (state : State Alone) (world : Cluster Solo) → IsGood cold_kit setup state → Shows cold_kit setup state world → standing_as world ≡ standing_cold state

@@ -1,6 +1,5 @@
 -- Words of public clauses: one server and its journal, as the servers of a cluster.
-use Rattle.std.specs.Prelude.{◌≡◌, true, ◌||◌, None}
-use Rattle.std.specs.Option.{is_some}
+use Rattle.std.specs.Prelude.{◌≡◌, true, None}
 use Rattle.disk_model.specs.declared.answers.DiskAnswer.{DiskAnswer}
 use Rattle.disk_model.specs.declared.answers.DiskAnswer.TheVariants.{Memory, Failed, Stopped}
 use Rattle.script_lines.specs.declared.line.Line.{Line}
@@ -17,6 +16,8 @@ use Rattle.cold_servers.specs.declared.solo.Solo.{Solo}
 use Rattle.cold_servers.specs.ColdNodes.{IsDown, Own}
 use Rattle.cold_servers.specs.ColdCounts.{EndsBoth, FaultsLine, LacksBoth, UsesBoth, UsesLine}
 use Rattle.cold_servers.specs.ColdSeen.{ArmsBoth, BetweenBoth, ColdSeen, LeavesBoth, Outlives, Rises, TellsBoth}
+use Rattle.cold_servers.specs.Silent.{IsSilent}
+pub use Rattle.cold_servers.specs.Silent.{ArmedAs}
 
 -- where a step of a drain ends, by the answer: a disk stops in it, or has a fault
 abbrev pub EndsCold : DiskAnswer → Device → EndAt Alone
@@ -30,12 +31,8 @@ pub record FellCold (servers : Solo) (left : ColdSeen) : Type 0 where
   pub disk : left.disk.tally.armed ≡ None
   pub journal : left.journal.tally.armed ≡ None
 
--- the server is told to be armed exactly where either disk is
-abbrev pub ArmedAs : Solo → ColdSeen → Type 0
-ArmedAs servers seen = servers.lone.armed ≡ (is_some seen.disk.tally.armed || is_some seen.journal.tally.armed)
-
--- A drain is thirteen steps, as of a group of two. The first disk has the record files, and the one beside it the journal. Nothing is said
--- here of servers that stand for no state, as behind a cold start from a disk that tells no files.
+-- A drain is thirteen steps, as of a group of two. The first disk has the record files, and the one beside it the journal. Behind a cold
+-- start from a journal's disk that tells no files the server may stand for no state.
 abbrev pub cold_kit : Kit Alone Solo
 cold_kit = record {
   servers = alone;
@@ -58,7 +55,7 @@ cold_kit = record {
   Lacks = λ crash setup state entries servers held left. LacksBoth setup state entries held left;
   Outlives = Outlives;
   Rises = Rises;
-  Wild = λ servers net entries seen. ⊥;
+  Wild = λ servers net entries seen. IsSilent servers net seen;
 }
 
 -- the lines that are played as over any servers whether the server is up or down; any other is so while it is up

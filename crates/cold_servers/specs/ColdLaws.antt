@@ -1,5 +1,5 @@
 -- One server and its journal are such servers as a cluster may have.
-use Rattle.std.specs.Prelude.{◌≡◌, ℕ, ◌≤◌, Bool, true, false, ◌||◌, Option, Some, None, IfSome, List}
+use Rattle.std.specs.Prelude.{◌≡◌, ◌⊎◌, ℕ, ◌≤◌, Bool, true, false, ◌||◌, Option, Some, None, IfSome, List}
 use Rattle.std.specs.Option.{is_some}
 use Rattle.std.proofs.Common.{refl, ap, sym, subst, inl, inr, le_refl, le_trans, ◌∙◌}
 use Rattle.disk_model.specs.Disk.{Files}
@@ -11,7 +11,10 @@ use Rattle.service_laws.specs.PlainOf.{plain_of}
 use Rattle.service_laws.specs.StorageOf.{storage_of}
 use Rattle.service_laws.proofs.HistoryLaws.{history-of}
 use Rattle.service_laws.proofs.StorageLaws.{is_storage}
-use Rattle.cluster_facts.specs.Types.{Entry}
+use Rattle.cluster_facts.specs.Types.{Answer, Entry, Message, Request}
+use Rattle.cluster_facts.specs.Lists.{Stands}
+use Rattle.cluster_facts.specs.Messages.{message_of}
+use Rattle.cluster_facts.proofs.Words.{All-map}
 use Rattle.cluster_facts.specs.Facts.{IsSound}
 use Rattle.cluster_facts.specs.History.{Core, Hand, Empty, Waiting, Applied, Ready, accepted, accepted_by, committed, committed_by}
 use Rattle.cluster_facts.specs.Ranges.{AreInRange}
@@ -29,13 +32,15 @@ use Rattle.cold_cluster.specs.Standing.{any_armed, standing_cold}
 use Rattle.cold_cluster.proofs.Beside.{lasts-beside}
 use Rattle.cold_cluster.proofs.Doing.{cold-carries, cold-serves, cold-stepped}
 use Rattle.lead_rounds.proofs.GroupSteps.{accept-measured, group-steps-unasked, group-unasked}
+use Rattle.mirror.specs.declared.owed.Owed.{Owed}
 use Rattle.lone_server.specs.declared.lone.Lone.{Lone}
 use Rattle.cold_servers.specs.declared.solo.Solo.{Solo}
 use Rattle.cold_servers.specs.ColdKit.{ArmedAs, cold_kit}
-use Rattle.cold_servers.specs.ColdNodes.{OwnBy}
+use Rattle.cold_servers.specs.ColdNodes.{IsDown, OwnBy}
 use Rattle.cold_servers.specs.ColdSeen.{ArmsBoth, ColdSeen, FilesHeld, HoldsFiles, HoldsJournal, JournalBetween, JournalHeld, LeavesTold}
 use Rattle.cold_servers.specs.ColdSeen.{Outlives, Rises, TellsBoth}
 use Rattle.cold_servers.specs.RestLaws.{hand-accepted, rests-so}
+use Rattle.cold_servers.specs.Silent.{AnswersCall, IsUpAt, Owes, OwesBy}
 use Rattle.cold_servers.specs.CountLaws.{done-none, ends-behind, lacks-behind, lacks-idle, made-none, uses-both}
 
 -- What disks tell, over events in a row.
@@ -159,6 +164,47 @@ rises-behind one two three first second = record {
   ];
 }
 
+-- A net with more in it.
+
+abbrev Grown : List Message → List Message → Type 0
+Grown old new = (message : Message) → Stands message old → Stands message new
+
+answers-later : (old new : List Message) → Grown old new → (message : Message) → AnswersCall old message → AnswersCall new message
+answers-later old new grows (Answer client number reply) answers = (answers.0, grows (Request client number answers.0) answers.1)
+answers-later old new grows message answers = elim answers [ ]
+
+owes-later : (old new : List Message) (entry : Entry) (owed : Option Owed) → Grown old new → Owes old entry owed → Owes new entry owed
+owes-later old new entry owed grows owes = record {
+  asked = grows (message_of entry) owes.asked;
+  held = owes.held;
+  is = owes.is;
+  answers = All-map (AnswersCall old) (AnswersCall new) owes.held.to_net (answers-later old new grows) owes.answers;
+}
+
+owing-later : (old new : List Message) (hand : Hand) (owed : Option Owed) → Grown old new → OwesBy old hand owed → OwesBy new hand owed
+owing-later old new Empty owed grows owes = owes
+owing-later old new (Waiting entry) owed grows owes = owes-later old new entry owed grows owes
+owing-later old new (Applied entry) owed grows owes = owes-later old new entry owed grows owes
+owing-later old new (Ready entry) owed grows owes = owes-later old new entry owed grows owes
+
+pub up-later : (servers : Lone) (old new : List Message) → Grown old new → IsUpAt old servers → IsUpAt new servers
+up-later servers old new grows up = record {
+  saved = up.saved;
+  owed = up.owed;
+  hand = up.hand;
+  good = up.good;
+  owes = owing-later old new up.hand up.owed grows up.owes;
+  node = up.node;
+  link = up.link;
+  back = up.back;
+  joined = up.joined;
+  bound = up.bound;
+}
+
+stands-later : (servers : Lone) (old new : List Message) → Grown old new → IsUpAt old servers ⊎ IsDown servers → IsUpAt new servers ⊎ IsDown servers
+stands-later servers old new grows (inl up) = inl (up-later servers old new grows up)
+stands-later servers old new grows (inr down) = inr down
+
 pub cold_laws : IsKit cold_kit
 cold_laws = record {
   serves = λ plain device is_plain. cold-serves standing_cold plain is_plain device;
@@ -239,6 +285,14 @@ cold_laws = record {
   stands = outlives-same;
   further = outlives-both;
   rises = rises-behind;
-  wild = λ servers old new entries seen grows wild. wild;
-  read_wild = λ servers net entries one two beside read wild. wild;
+  wild = λ servers old new entries seen grows wild. record {
+    untold = wild.untold;
+    armed = wild.armed;
+    stands = stands-later servers.lone old new grows wild.stands;
+  };
+  read_wild = λ servers net entries one two beside read wild. record {
+    untold = wild.untold;
+    armed = wild.armed ∙ ap (λ (armed : Option ℕ). is_some armed || is_some beside.tally.armed) (sym read.armed);
+    stands = wild.stands;
+  };
 }

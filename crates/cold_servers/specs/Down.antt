@@ -1,5 +1,5 @@
 -- Words of public clauses: lines that are played while the server is down, and the one by which it comes back.
-use Rattle.std.specs.Prelude.{◌≡◌, ◌⊎◌, ℕ, IfErr, IfSome, IsSome, List, ◌∷◌, OnOk, Result, Err}
+use Rattle.std.specs.Prelude.{◌≡◌, ◌⊎◌, ℕ, Option, None, IfErr, IfSome, IsSome, List, ◌∷◌, OnOk, Result, Err}
 use Rattle.disk_model.specs.Disk.{Files}
 use Rattle.disk_model.specs.declared.answers.DiskAnswer.{DiskAnswer}
 use Rattle.journal_start.specs.declared.cold.ColdAnswer.{ColdAnswer}
@@ -12,6 +12,7 @@ use Rattle.plain_service.specs.Setups.{Setup}
 use Rattle.service_laws.specs.Disks.{service_disk}
 use Rattle.service_laws.specs.PlainOf.{plain_of}
 use Rattle.service_laws.specs.StorageOf.{storage_of}
+use Rattle.cluster_facts.specs.History.{committed}
 use Rattle.cluster_facts.specs.Types.{Entry}
 use Rattle.cluster_facts.specs.Storage.{Between}
 use Rattle.cluster_events.specs.Outcomes.{Outcome}
@@ -21,12 +22,13 @@ use Rattle.cluster_rounds.specs.declared.cluster.Cluster.{Cluster}
 use Rattle.cluster_rounds.specs.Broken.{Broken}
 use Rattle.cluster_rounds.specs.Counted.{Counted}
 use Rattle.cluster_rounds.specs.Kits.{Kit, device_by}
+use Rattle.cluster_rounds.specs.Wild.{HasWild, always}
 use Rattle.cluster_rounds.specs.Worlds.{Happened, HasStateOn, IsGood, Shows, any_state}
 use Rattle.cluster_lines.specs.Playing.{BreaksOff, LineEnded}
 use Rattle.cluster_lines.specs.Shelves.{shelf_at}
-use Rattle.journal_frames.specs.Frames.{IsShort}
+use Rattle.journal_frames.specs.Frames.{HasFile, IsShort, journal_name}
 use Rattle.journal_frames.specs.Staging.{HasStaged}
-use Rattle.journal_found.specs.Found.{messages_of, texts_of}
+use Rattle.journal_found.specs.Found.{Found, follower_of, messages_of, texts_of}
 use Rattle.cold_cluster.specs.Cold.{Alone}
 use Rattle.cold_cluster.specs.Lines.{ColdHappens}
 use Rattle.cold_servers.specs.declared.solo.Solo.{Solo}
@@ -71,12 +73,18 @@ PlaysDown next old new before after held left =
     (setup : Setup) (state : State Alone) → IsGood cold_kit setup state → Shows cold_kit setup state old → cold_kit.Armed state.peers held
     → PlayedDown setup state next new before after held left
 
--- `restart a`: what is found is known where the disks hold what they hold of the state, and the journal's tells its files
+-- this history is found in the journal's file, where the disk tells it
+abbrev pub IsFound : Setup → List Entry → Option Files → Type 0
+IsFound setup past held = IfSome held (HasFile journal_name (λ file. Found file.bytes past (follower_of setup past)))
+
+-- `restart a`: what is found is known where the disks hold what they hold of the state, and the journal's tells its files. The history is what
+-- was found there
 abbrev pub PlaysRestart : Cluster Solo → Cluster Solo → List (List ℕ) → List (List ℕ) → ColdSeen → ColdSeen → Type 0
 PlaysRestart old new before after held left =
     (setup : Setup) (state : State Alone) → IsGood cold_kit setup state → Shows cold_kit setup state old → cold_kit.Armed state.peers held
     → TellsBoth setup state held → IsSome held.journal.files
-    → PlayedDown setup state (line.Restart A) new before after held left
+    → (played : PlayedDown setup state (line.Restart A) new before after held left)
+    × IsFound setup (committed played.outcome.state.world.core) held.journal.files
 
 -- A start that was not done leaves the record files as they were, or between, or any attempt at the deeds of one entry more that was found,
 -- which may follow; and the journal so that a start from it finds what it found before.
@@ -111,15 +119,19 @@ RestartBreaks answer old new before after held left =
     (setup : Setup) (state : State Alone) → IsGood cold_kit setup state → Shows cold_kit setup state old → cold_kit.Armed state.peers held
     → TellsBoth setup state held → IsSome held.journal.files → RestartLeaves answer setup state new before after held left
 
+-- behind a journal's disk that tells no files the cluster can go on, though it may stand for no state
+abbrev pub RestartGoes : Cluster Solo → ColdSeen → ColdSeen → Type 0
+RestartGoes new held left = held.journal.files ≡ None → HasWild cold_kit always new left
+
 -- and how the counts of faults went, over any disks
 abbrev pub CountsStart : {T : Type 0} → Result T ColdAnswer → ColdSeen → ColdSeen → Type 0
 CountsStart (Err Failed) held left = Rises held left
 CountsStart _ held left = Outlives held left
 
--- all that a line came to that is played while the server is down, by its result
+-- all that a line came to that is played while the server is down, by its result: over a state it stands for one still
 pub record PlaysDownLine {T : Type 0} (result : Result T DiskAnswer) (next : Line) (old new : Cluster Solo) (before after : List (List ℕ))
     (held left : ColdSeen) : Type 0 where
   pub ok : OnOk result (PlaysDown next old new before after held left)
-  pub stands : OnOk result (HasStateOn cold_kit any_state new left)
+  pub stands : HasStateOn cold_kit any_state old held → OnOk result (HasStateOn cold_kit any_state new left)
   pub broken : IfErr result (λ answer. BreaksOff cold_kit cold_script answer next old new before after held left)
   pub counts : Counted cold_kit held left result

@@ -1,5 +1,6 @@
 pub mod ColdNodes
 pub mod ColdSeen
+pub mod Silent
 pub mod ColdCounts
 pub mod ColdKit
 pub mod RestLaws

@@ -3,7 +3,8 @@ ghost use Rattle.std.specs.Prelude.{◌≡◌, [], IfErr, IfOk};
 ghost use Rattle.cluster_rounds.specs.Came.{Advances, ComesOff};
 ghost use Rattle.cluster_rounds.specs.Counted.{Counted};
 ghost use Rattle.cluster_rounds.specs.Rounds.{EndsStep};
-ghost use Rattle.cluster_rounds.specs.Worlds.{any_state, HasStateOn};
+ghost use Rattle.cluster_rounds.specs.Wild.{always, GoesWild, StandsOn};
+ghost use Rattle.cluster_rounds.specs.Worlds.{any_state};
 ghost use Rattle.cold_servers.specs.ColdKit.{cold_kit};
 ghost use Rattle.cold_servers.specs.Steps.{AreUp};
 
@@ -22,7 +23,7 @@ fn work_step<D: SharedDisk, J: SharedDisk>(
     disk: &mut D,
     beside: &mut J,
 ) -> Result<bool, DiskAnswer>
-    requires state { HasStateOn cold_kit any_state world.old
+    requires state { StandsOn cold_kit any_state always world.old
         (cold_kit.see (D.seen disk.old) (J.seen beside.old)) }
     requires up { AreUp world.old }
     requires link { world.old.servers.lone.link ≡ [] }
@@ -34,6 +35,9 @@ fn work_step<D: SharedDisk, J: SharedDisk>(
         world.old world.new lines.old.items lines.new.items
         (cold_kit.see (D.seen disk.old) (J.seen beside.old))
         (cold_kit.see (D.seen disk.new) (J.seen beside.new))) }
+    ensures wild { GoesWild cold_kit always result world.old world.new
+        (cold_kit.see (D.seen disk.old) (J.seen beside.old))
+        (cold_kit.see (D.seen disk.new) (J.seen beside.new)) }
     ensures counts { Counted cold_kit (cold_kit.see (D.seen disk.old) (J.seen beside.old))
         (cold_kit.see (D.seen disk.new) (J.seen beside.new)) result }
 {
@@ -62,7 +66,7 @@ fn back_step<D: SharedDisk, J: SharedDisk>(
     disk: &mut D,
     beside: &mut J,
 ) -> Result<bool, DiskAnswer>
-    requires state { HasStateOn cold_kit any_state world.old
+    requires state { StandsOn cold_kit any_state always world.old
         (cold_kit.see (D.seen disk.old) (J.seen beside.old)) }
     requires up { AreUp world.old }
     requires link { world.old.servers.lone.link ≡ [] }
@@ -73,6 +77,9 @@ fn back_step<D: SharedDisk, J: SharedDisk>(
         world.old world.new lines.old.items lines.new.items
         (cold_kit.see (D.seen disk.old) (J.seen beside.old))
         (cold_kit.see (D.seen disk.new) (J.seen beside.new))) }
+    ensures wild { GoesWild cold_kit always result world.old world.new
+        (cold_kit.see (D.seen disk.old) (J.seen beside.old))
+        (cold_kit.see (D.seen disk.new) (J.seen beside.new)) }
     ensures counts { Counted cold_kit (cold_kit.see (D.seen disk.old) (J.seen beside.old))
         (cold_kit.see (D.seen disk.new) (J.seen beside.new)) result }
 {
@@ -95,7 +102,7 @@ fn join_step<D: SharedDisk, J: SharedDisk>(
     disk: &mut D,
     beside: &mut J,
 ) -> Result<bool, DiskAnswer>
-    requires state { HasStateOn cold_kit any_state world.old
+    requires state { StandsOn cold_kit any_state always world.old
         (cold_kit.see (D.seen disk.old) (J.seen beside.old)) }
     requires up { AreUp world.old }
     requires some { world.old.servers.lone.link ≡ [] → ⊥ }
@@ -106,6 +113,9 @@ fn join_step<D: SharedDisk, J: SharedDisk>(
         world.old world.new lines.old.items lines.new.items
         (cold_kit.see (D.seen disk.old) (J.seen beside.old))
         (cold_kit.see (D.seen disk.new) (J.seen beside.new))) }
+    ensures wild { GoesWild cold_kit always result world.old world.new
+        (cold_kit.see (D.seen disk.old) (J.seen beside.old))
+        (cold_kit.see (D.seen disk.new) (J.seen beside.new)) }
     ensures counts { Counted cold_kit (cold_kit.see (D.seen disk.old) (J.seen beside.old))
         (cold_kit.see (D.seen disk.new) (J.seen beside.new)) result }
 {
@@ -134,7 +144,7 @@ pub fn advance<D: SharedDisk, J: SharedDisk>(
     disk: &mut D,
     beside: &mut J,
 ) -> Result<bool, DiskAnswer>
-    requires state { HasStateOn cold_kit any_state world.old
+    requires state { StandsOn cold_kit any_state always world.old
         (cold_kit.see (D.seen disk.old) (J.seen beside.old)) }
     requires up { AreUp world.old }
     ensures ok { IfOk result (λ went. Advances cold_kit went world.old world.new lines.old.items
@@ -144,6 +154,9 @@ pub fn advance<D: SharedDisk, J: SharedDisk>(
         world.old world.new lines.old.items lines.new.items
         (cold_kit.see (D.seen disk.old) (J.seen beside.old))
         (cold_kit.see (D.seen disk.new) (J.seen beside.new))) }
+    ensures wild { GoesWild cold_kit always result world.old world.new
+        (cold_kit.see (D.seen disk.old) (J.seen beside.old))
+        (cold_kit.see (D.seen disk.new) (J.seen beside.new)) }
     ensures counts { Counted cold_kit (cold_kit.see (D.seen disk.old) (J.seen beside.old))
         (cold_kit.see (D.seen disk.new) (J.seen beside.new)) result }
 {

@@ -4,7 +4,8 @@ ghost use Rattle.script_lines.specs.declared.line.Line.TheVariants.{Arm, Crash, 
 ghost use Rattle.script_lines.specs.declared.line.Server.TheVariants.{A, B};
 ghost use Rattle.cluster_lines.specs.Own.{DoesOn};
 ghost use Rattle.cold_servers.specs.ColdKit.{cold_kit, cold_script};
-ghost use Rattle.cold_servers.specs.Steps.{disarmed_both, disk_armed, fell, journal_armed, AreUp};
+ghost use Rattle.cold_servers.specs.ColdSeen.{Outlives};
+ghost use Rattle.cold_servers.specs.Steps.{disarmed_both, disk_armed, fell, journal_armed, AreUp, StaysWild};
 
 use crate::Solo;
 use ais_values::Seq;
@@ -30,6 +31,11 @@ pub fn crash<D: SharedDisk, J: SharedDisk>(
         (cold_kit.see (D.seen disk.new) (J.seen beside.new))) }
     ensures err { OnErr result ((world.new ≡ world.old) × (lines.new.items ≡ lines.old.items)
         × (D.seen disk.new ≡ D.seen disk.old) × (J.seen beside.new ≡ J.seen beside.old)) }
+    ensures wild { OnOk result (StaysWild world.old world.new
+        (cold_kit.see (D.seen disk.old) (J.seen beside.old))
+        (cold_kit.see (D.seen disk.new) (J.seen beside.new))) }
+    ensures counts { Outlives (cold_kit.see (D.seen disk.old) (J.seen beside.old))
+        (cold_kit.see (D.seen disk.new) (J.seen beside.new)) }
 {
     match put_server(alloc, lines, Server::A, ServerRole::Down) {
         Ok(()) => {}
@@ -48,9 +54,14 @@ pub fn arm_disk<D: SharedDisk, J: SharedDisk>(
 )
     requires up { AreUp world.old }
     requires some { 1 ≤ count }
-    ensures { (lines : List (List ℕ)) → DoesOn cold_kit cold_script (Arm A count)
+    ensures states { (lines : List (List ℕ)) → DoesOn cold_kit cold_script (Arm A count)
         (disk_armed count) world.old world.new lines lines
         (cold_kit.see (D.seen disk.old) (J.seen beside.old))
+        (cold_kit.see (D.seen disk.new) (J.seen beside.new)) }
+    ensures wild { StaysWild world.old world.new
+        (cold_kit.see (D.seen disk.old) (J.seen beside.old))
+        (cold_kit.see (D.seen disk.new) (J.seen beside.new)) }
+    ensures counts { Outlives (cold_kit.see (D.seen disk.old) (J.seen beside.old))
         (cold_kit.see (D.seen disk.new) (J.seen beside.new)) }
 {
     disk.arm(count);
@@ -66,9 +77,14 @@ pub fn arm_journal<D: SharedDisk, J: SharedDisk>(
 )
     requires up { AreUp world.old }
     requires some { 1 ≤ count }
-    ensures { (lines : List (List ℕ)) → DoesOn cold_kit cold_script (Arm B count)
+    ensures states { (lines : List (List ℕ)) → DoesOn cold_kit cold_script (Arm B count)
         (journal_armed count) world.old world.new lines lines
         (cold_kit.see (D.seen disk.old) (J.seen beside.old))
+        (cold_kit.see (D.seen disk.new) (J.seen beside.new)) }
+    ensures wild { StaysWild world.old world.new
+        (cold_kit.see (D.seen disk.old) (J.seen beside.old))
+        (cold_kit.see (D.seen disk.new) (J.seen beside.new)) }
+    ensures counts { Outlives (cold_kit.see (D.seen disk.old) (J.seen beside.old))
         (cold_kit.see (D.seen disk.new) (J.seen beside.new)) }
 {
     beside.arm(count);
@@ -77,8 +93,13 @@ pub fn arm_journal<D: SharedDisk, J: SharedDisk>(
 
 /// `disarm`: neither disk stops any more.
 pub fn disarm<D: SharedDisk, J: SharedDisk>(world: &mut Cluster<Solo>, disk: &mut D, beside: &mut J)
-    ensures { (lines : List (List ℕ)) → DoesOn cold_kit cold_script Disarm disarmed_both
+    ensures states { (lines : List (List ℕ)) → DoesOn cold_kit cold_script Disarm disarmed_both
         world.old world.new lines lines (cold_kit.see (D.seen disk.old) (J.seen beside.old))
+        (cold_kit.see (D.seen disk.new) (J.seen beside.new)) }
+    ensures wild { StaysWild world.old world.new
+        (cold_kit.see (D.seen disk.old) (J.seen beside.old))
+        (cold_kit.see (D.seen disk.new) (J.seen beside.new)) }
+    ensures counts { Outlives (cold_kit.see (D.seen disk.old) (J.seen beside.old))
         (cold_kit.see (D.seen disk.new) (J.seen beside.new)) }
 {
     disk.disarm();

@@ -6,7 +6,8 @@ ghost use Rattle.script_lines.specs.declared.line.Line.TheVariants.{Deliver};
 ghost use Rattle.wire.specs.MessageSpelling.{MessageInRange};
 ghost use Rattle.cluster_rounds.specs.Broken.{BreaksAlone};
 ghost use Rattle.cluster_rounds.specs.Delivered.{is_for_agent};
-ghost use Rattle.cluster_rounds.specs.Worlds.{any_state, Does, HasState, HasStateOn};
+ghost use Rattle.cluster_rounds.specs.Wild.{always, GoesWild, KeepsWild, StandsOf, StandsOn};
+ghost use Rattle.cluster_rounds.specs.Worlds.{any_state, Does};
 ghost use Rattle.cluster_lines.specs.Playing.{LooksBy};
 ghost use Rattle.cold_servers.specs.ColdKit.{cold_kit};
 ghost use Rattle.cold_servers.specs.Down.{IsDownLine, PlaysDownLine};
@@ -26,9 +27,8 @@ use event_text::put_ignored;
 use message_net::Net;
 use script_lines::Line;
 use std::alloc::{AllocError, Global};
-use std::mem;
 use std::sync::Wait;
-use wire::Message;
+use wire::{Message, let_message_go, let_messages_go};
 
 /// Whether the message is a reply or an item, which are for an agent.
 fn is_for_agent(message: &Message) -> bool
@@ -47,7 +47,7 @@ fn is_asking(alloc: Global, net: &Net, place: u64) -> Result<bool, AllocError>
             Some(fetched) => match fetched {
                 Fetched::Whole { message } => {
                     let asking = !is_for_agent(&message);
-                    mem::drop(message);
+                    let_message_go(Some(message));
                     Ok(asking)
                 }
                 Fetched::Bad { .. } => Ok(false),
@@ -67,11 +67,12 @@ fn deliver_line<R: Wait>(
     line: &Line,
     place: u64,
 ) -> Result<(), AllocError>
-    requires state { HasState cold_kit world.old }
+    requires state { StandsOf cold_kit any_state always world.old }
     requires line { line.now ≡ Deliver place }
     ensures ok { OnOk result (Does cold_kit (down_delivered place) world.old world.new
         lines.old.items lines.new.items) }
     ensures err { OnErr result (BreaksAlone cold_kit world.old world.new) }
+    ensures wild { OnOk result (KeepsWild cold_kit always world.old world.new) }
 {
     match is_asking(alloc, &world.net, place) {
         Ok(asking) => {
@@ -116,10 +117,11 @@ fn resend_line(
     lines: &mut Vec<Seq<u8>>,
     client: u16,
 ) -> Result<(), AllocError>
-    requires { HasState cold_kit world.old }
+    requires { StandsOf cold_kit any_state always world.old }
     ensures ok { OnOk result (Does cold_kit (down_resent client) world.old world.new lines.old.items
         lines.new.items) }
     ensures err { OnErr result (BreaksAlone cold_kit world.old world.new) }
+    ensures wild { OnOk result (KeepsWild cold_kit always world.old world.new) }
 {
     let at = match place_of(world.agents.as_slice(), client) {
         Some(at) => at,
@@ -128,7 +130,7 @@ fn resend_line(
     match world.agents.as_slice()[at].resend(alloc) {
         Ok(messages) => {
             let done = ignore_all(alloc, &world.net, lines, messages.as_slice());
-            mem::drop(messages);
+            let_messages_go(messages);
             done
         }
         Err(error) => Err(error),
@@ -149,12 +151,15 @@ pub fn down_line<R: Wait, D: SharedDisk, J: SharedDisk>(
     disk: &mut D,
     beside: &mut J,
 ) -> Result<(), DiskAnswer>
-    requires state { HasStateOn cold_kit any_state world.old
+    requires state { StandsOn cold_kit any_state always world.old
         (cold_kit.see (D.seen disk.old) (J.seen beside.old)) }
     requires down { AreDown world.old }
     requires line { IsDownLine line.now }
     ensures played { PlaysDownLine result line.now world.old world.new lines.old.items
         lines.new.items (cold_kit.see (D.seen disk.old) (J.seen beside.old))
+        (cold_kit.see (D.seen disk.new) (J.seen beside.new)) }
+    ensures wild { GoesWild cold_kit always result world.old world.new
+        (cold_kit.see (D.seen disk.old) (J.seen beside.old))
         (cold_kit.see (D.seen disk.new) (J.seen beside.new)) }
     ensures looks { LooksBy line.now (D.seen disk.old).files (is_ok result) (D.seen disk.old).tally
         (D.seen disk.new).tally }

@@ -2,12 +2,12 @@
 ghost use Rattle.std.specs.Prelude.{◌≡◌, false};
 ghost use Rattle.script_lines.specs.declared.line.Line.TheVariants.{Ack, Arm, Crash, Mirror, Work};
 ghost use Rattle.script_lines.specs.declared.line.Server.{Server};
-ghost use Rattle.cluster_rounds.specs.Worlds.{HasStateOn, any_state};
+ghost use Rattle.cluster_rounds.specs.Wild.{always, StandsOn};
+ghost use Rattle.cluster_rounds.specs.Worlds.{any_state};
 ghost use Rattle.cluster_lines.specs.Answers.{DoneAtStop};
 ghost use Rattle.cluster_lines.specs.Lines.{shows_files, IsInRange, IsOwn};
-ghost use Rattle.cluster_lines.specs.Own.{PlaysLine};
 ghost use Rattle.cold_servers.specs.ColdKit.{cold_kit, cold_script};
-ghost use Rattle.cold_servers.specs.Steps.{AreUp, IsRefusedUp};
+ghost use Rattle.cold_servers.specs.Steps.{AreUp, IsRefusedUp, PlaysUp};
 
 use crate::Solo;
 use crate::arming::{arm_disk, arm_journal, crash, disarm};
@@ -43,13 +43,13 @@ fn refuse_line<D: SharedDisk, J: SharedDisk>(
     disk: &mut D,
     beside: &mut J,
 ) -> Result<(), DiskAnswer>
-    requires state { HasStateOn cold_kit any_state world.old
+    requires state { StandsOn cold_kit any_state always world.old
         (cold_kit.see (D.seen disk.old) (J.seen beside.old)) }
     requires up { AreUp world.old }
     requires shown { shows_files line.now ≡ false }
     requires refused { IsRefusedUp line.now world.old }
-    ensures { PlaysLine cold_kit cold_script result line.now world.old world.new lines.old.items
-        lines.new.items (cold_kit.see (D.seen disk.old) (J.seen beside.old))
+    ensures { PlaysUp result line.now world.old world.new lines.old.items lines.new.items
+        (cold_kit.see (D.seen disk.old) (J.seen beside.old))
         (cold_kit.see (D.seen disk.new) (J.seen beside.new)) }
 {
     as_answer(refuse(alloc, world, lines, line))
@@ -65,12 +65,12 @@ fn mirror_line<D: SharedDisk, J: SharedDisk>(
     disk: &mut D,
     beside: &mut J,
 ) -> Result<(), DiskAnswer>
-    requires state { HasStateOn cold_kit any_state world.old
+    requires state { StandsOn cold_kit any_state always world.old
         (cold_kit.see (D.seen disk.old) (J.seen beside.old)) }
     requires up { AreUp world.old }
     requires line { line.now ≡ Mirror }
-    ensures { PlaysLine cold_kit cold_script result line.now world.old world.new lines.old.items
-        lines.new.items (cold_kit.see (D.seen disk.old) (J.seen beside.old))
+    ensures { PlaysUp result line.now world.old world.new lines.old.items lines.new.items
+        (cold_kit.see (D.seen disk.old) (J.seen beside.old))
         (cold_kit.see (D.seen disk.new) (J.seen beside.new)) }
 {
     if is_clear(&world.servers.lone.link) {
@@ -95,12 +95,12 @@ fn ack_line<D: SharedDisk, J: SharedDisk>(
     disk: &mut D,
     beside: &mut J,
 ) -> Result<(), DiskAnswer>
-    requires state { HasStateOn cold_kit any_state world.old
+    requires state { StandsOn cold_kit any_state always world.old
         (cold_kit.see (D.seen disk.old) (J.seen beside.old)) }
     requires up { AreUp world.old }
     requires line { line.now ≡ Ack }
-    ensures { PlaysLine cold_kit cold_script result line.now world.old world.new lines.old.items
-        lines.new.items (cold_kit.see (D.seen disk.old) (J.seen beside.old))
+    ensures { PlaysUp result line.now world.old world.new lines.old.items lines.new.items
+        (cold_kit.see (D.seen disk.old) (J.seen beside.old))
         (cold_kit.see (D.seen disk.new) (J.seen beside.new)) }
 {
     if is_clear(&world.servers.lone.back) {
@@ -123,12 +123,12 @@ fn work_line<D: SharedDisk, J: SharedDisk>(
     disk: &mut D,
     beside: &mut J,
 ) -> Result<(), DiskAnswer>
-    requires state { HasStateOn cold_kit any_state world.old
+    requires state { StandsOn cold_kit any_state always world.old
         (cold_kit.see (D.seen disk.old) (J.seen beside.old)) }
     requires up { AreUp world.old }
     requires line { line.now ≡ Work }
-    ensures { PlaysLine cold_kit cold_script result line.now world.old world.new lines.old.items
-        lines.new.items (cold_kit.see (D.seen disk.old) (J.seen beside.old))
+    ensures { PlaysUp result line.now world.old world.new lines.old.items lines.new.items
+        (cold_kit.see (D.seen disk.old) (J.seen beside.old))
         (cold_kit.see (D.seen disk.new) (J.seen beside.new)) }
 {
     if !world.servers.lone.node.ready() {
@@ -154,12 +154,12 @@ fn crash_line<D: SharedDisk, J: SharedDisk>(
     disk: &mut D,
     beside: &mut J,
 ) -> Result<(), DiskAnswer>
-    requires state { HasStateOn cold_kit any_state world.old
+    requires state { StandsOn cold_kit any_state always world.old
         (cold_kit.see (D.seen disk.old) (J.seen beside.old)) }
     requires up { AreUp world.old }
     requires line { line.now ≡ Crash server }
-    ensures { PlaysLine cold_kit cold_script result line.now world.old world.new lines.old.items
-        lines.new.items (cold_kit.see (D.seen disk.old) (J.seen beside.old))
+    ensures { PlaysUp result line.now world.old world.new lines.old.items lines.new.items
+        (cold_kit.see (D.seen disk.old) (J.seen beside.old))
         (cold_kit.see (D.seen disk.new) (J.seen beside.new)) }
 {
     match server {
@@ -180,13 +180,13 @@ fn arm_line<D: SharedDisk, J: SharedDisk>(
     disk: &mut D,
     beside: &mut J,
 ) -> Result<(), DiskAnswer>
-    requires state { HasStateOn cold_kit any_state world.old
+    requires state { StandsOn cold_kit any_state always world.old
         (cold_kit.see (D.seen disk.old) (J.seen beside.old)) }
     requires up { AreUp world.old }
     requires range { IsInRange line.now }
     requires line { line.now ≡ Arm server count }
-    ensures { PlaysLine cold_kit cold_script result line.now world.old world.new lines.old.items
-        lines.new.items (cold_kit.see (D.seen disk.old) (J.seen beside.old))
+    ensures { PlaysUp result line.now world.old world.new lines.old.items lines.new.items
+        (cold_kit.see (D.seen disk.old) (J.seen beside.old))
         (cold_kit.see (D.seen disk.new) (J.seen beside.new)) }
 {
     match server {
@@ -211,13 +211,13 @@ pub(crate) fn play_own<D: SharedDisk, J: SharedDisk>(
     disk: &mut D,
     beside: &mut J,
 ) -> Result<(), DiskAnswer>
-    requires state { HasStateOn cold_kit any_state world.old
+    requires state { StandsOn cold_kit any_state always world.old
         (cold_kit.see (D.seen disk.old) (J.seen beside.old)) }
     requires up { AreUp world.old }
     requires range { IsInRange line.now }
     requires own { IsOwn cold_script line.now }
-    ensures { PlaysLine cold_kit cold_script result line.now world.old world.new lines.old.items
-        lines.new.items (cold_kit.see (D.seen disk.old) (J.seen beside.old))
+    ensures { PlaysUp result line.now world.old world.new lines.old.items lines.new.items
+        (cold_kit.see (D.seen disk.old) (J.seen beside.old))
         (cold_kit.see (D.seen disk.new) (J.seen beside.new)) }
 {
     match line {

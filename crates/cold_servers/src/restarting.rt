@@ -1,9 +1,10 @@
 //! The server comes back with what its journal holds.
-ghost use Rattle.std.specs.Prelude.{◌≡◌, ◌⊎◌, IfErr, OnOk};
+ghost use Rattle.std.specs.Prelude.{◌≡◌, ◌⊎◌, IfErr, IsErrOf, OnOk};
 ghost use Rattle.journal_start.specs.Starts.{IsOfDisk};
-ghost use Rattle.cluster_rounds.specs.Worlds.{HasStateOn, any_state};
+ghost use Rattle.cluster_rounds.specs.Wild.{always, StandsOn};
+ghost use Rattle.cluster_rounds.specs.Worlds.{any_state};
 ghost use Rattle.cold_servers.specs.ColdKit.{cold_kit};
-ghost use Rattle.cold_servers.specs.Down.{CountsStart, PlaysRestart, RestartBreaks};
+ghost use Rattle.cold_servers.specs.Down.{CountsStart, PlaysRestart, RestartBreaks, RestartGoes};
 ghost use Rattle.cold_servers.specs.Steps.{AreDown};
 
 use crate::Solo;
@@ -19,8 +20,8 @@ use std::alloc::Global;
 ///
 /// `Failed` comes where a disk had a fault, and `NoJournal` and `Refused` where the journal is none: the cluster and its lines stay as they
 /// were, and the start can be begun again. `Memory` comes where memory ran out: the cluster stays too, or the server came back and that is
-/// not told. `Stopped` never comes where the cluster stands for a state, since no disk is armed then. Of a journal's disk that tells no files
-/// nothing is said of what is found.
+/// not told. `Stopped` never comes, since no disk is armed while the server is down. Of a journal's disk that tells no files nothing is said
+/// of what is found: the cluster can go on, but it may stand for no state.
 pub fn restart<D: SharedDisk, J: SharedDisk>(
     alloc: Global,
     world: &mut Cluster<Solo>,
@@ -28,7 +29,7 @@ pub fn restart<D: SharedDisk, J: SharedDisk>(
     disk: &mut D,
     beside: &mut J,
 ) -> Result<(), ColdAnswer>
-    requires state { HasStateOn cold_kit any_state world.old
+    requires state { StandsOn cold_kit any_state always world.old
         (cold_kit.see (D.seen disk.old) (J.seen beside.old)) }
     requires down { AreDown world.old }
     ensures ok { OnOk result (PlaysRestart world.old world.new lines.old.items lines.new.items
@@ -41,6 +42,10 @@ pub fn restart<D: SharedDisk, J: SharedDisk>(
         × (lines.new.items ≡ lines.old.items)
         × ((D.seen disk.new).files ≡ (D.seen disk.old).files)
         × ((J.seen beside.new).files ≡ (J.seen beside.old).files))) }
+    ensures wild { OnOk result (RestartGoes world.new
+        (cold_kit.see (D.seen disk.old) (J.seen beside.old))
+        (cold_kit.see (D.seen disk.new) (J.seen beside.new))) }
+    ensures never { IsErrOf result ColdAnswer.Stopped → ⊥ }
     ensures counts { CountsStart result (cold_kit.see (D.seen disk.old) (J.seen beside.old))
         (cold_kit.see (D.seen disk.new) (J.seen beside.new)) }
 {

@@ -41,7 +41,10 @@ impl Serving for Solo {
         lines: &mut Vec<Seq<u8>>,
     ) -> Result<Seq<Message>, AllocError> {
         if is_up(world) {
-            return hearing::push(alloc, world, lines);
+            return match world.servers.lone.node.in_hand() {
+                None => hearing::push(alloc, world, lines),
+                Some(_) => Err(AllocError),
+            };
         }
         Err(AllocError)
     }
@@ -79,7 +82,10 @@ impl Scripted for Solo {
         disk: &mut D,
         beside: &mut J,
     ) -> Result<(), DiskAnswer> {
-        lines::play_own(alloc, world, lines, line, disk, beside)
+        if is_up(world) {
+            return lines::play_own(alloc, world, lines, line, disk, beside);
+        }
+        Err(DiskAnswer::Memory)
     }
 
     ghost follows = { cold_follows };

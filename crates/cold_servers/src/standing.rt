@@ -32,7 +32,7 @@ fn standing_of(world: &Cluster<Solo>) -> Standing
     }
 }
 
-/// Whether the server is up, in each state that the cluster stands for.
+/// Whether the server is active, and so up in each state that the cluster stands for.
 pub fn is_up(world: &Cluster<Solo>) -> bool
     ensures { AreBy result world.entry.now }
 {

@@ -1,5 +1,5 @@
 -- What holds of a good state, and the conditions of what its active server is called with.
-use Rattle.std.proofs.Common.{◌≡◌, ℕ, ℤ, ◌<◌, Bool, List, length, refl, ap, sym, ◌∙◌, subst, arith}
+use Rattle.std.proofs.Common.{◌≡◌, ℕ, ℤ, ◌<◌, Bool, List, length, sym, subst, arith}
 use Rattle.std.specs.Prelude.{Result, Ok, Err, IfOk}
 use mir.Syntax.{w64}
 use mir.Val.{to_z, of_z}
@@ -18,7 +18,6 @@ use Rattle.cluster_events.specs.Outcomes.{Outcome}
 use Rattle.cluster_events.specs.Servers.{State}
 use Rattle.cluster_events.specs.Serving.{IsSteady}
 use Rattle.cluster_events.proofs.Carrying.{Goes, hear-goes}
-use Rattle.mirror.specs.declared.heard.Role.TheVariants.{Active}
 use Rattle.mirror.specs.declared.heard.Heard.{Heard}
 use Rattle.mirror.specs.declared.state.NodeState.{NodeState as Node}
 use Rattle.mirror.specs.Hearing.{CanHear}
@@ -33,7 +32,7 @@ use Rattle.cluster_rounds.specs.Worlds.{IsGood, Shows, heard_by}
 use Rattle.cluster_rounds.proofs.KitSteps.{calm-serves, calm-unasked}
 use Rattle.lead_rounds.specs.Leading.{lead_by}
 
--- Histories and roles.
+-- Histories.
 
 answered-by : (setup : Setup) (past : List Entry) (hand : Hand) → IsHistory setup (accepted_by past hand) → IsHistory setup past
 answered-by setup past Empty history = history
@@ -41,17 +40,7 @@ answered-by setup past (Waiting entry) history = history.1
 answered-by setup past (Applied entry) history = history.1
 answered-by setup past (Ready entry) history = history.1
 
-lead-role : (setup : Setup) (past : List Entry) (hand : Hand) (linked : Bool) → (lead_by setup past hand linked).replica.role ≡ Active
-lead-role setup past Empty linked = refl
-lead-role setup past (Waiting entry) linked = refl
-lead-role setup past (Applied entry) linked = refl
-lead-role setup past (Ready entry) linked = refl
-
--- the active server is active
-pub lead-acts : (setup : Setup) (past : List Entry) (hand : Hand) (linked : Bool) (node : Node) → node ≡ lead_by setup past hand linked → node.replica.role ≡ Active
-lead-acts setup past hand linked node led = ap (λ (n : Node). n.replica.role) led ∙ lead-role setup past hand linked
-
-can-hear : (message : Message) (now : ℤ) → MessageInRange message → IsMoment now → CanHear message now
+pub can-hear : (message : Message) (now : ℤ) → MessageInRange message → IsMoment now → CanHear message now
 can-hear (Request client number call) now range moment =
     let first = range.1.least in
     (record { from = range.0.least; to = range.0.most }, omega arith, moment)

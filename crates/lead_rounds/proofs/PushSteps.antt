@@ -1,5 +1,5 @@
 -- What a push comes to, and what it leaves where memory runs out.
-use Rattle.std.proofs.Common.{◌≡◌, ℕ, inl, inr, Bool, None, List, [], ◌∷◌, ◌++◌, take, refl, ap, sym, ◌∙◌, subst}
+use Rattle.std.proofs.Common.{◌≡◌, ℕ, inl, inr, Bool, List, [], ◌∷◌, ◌++◌, take, refl, ap, sym, ◌∙◌, subst}
 use Rattle.std.specs.List.{AllByRecursion}
 use Rattle.wire.specs.MessageSpelling.{MessageInRange}
 use Rattle.plain_service.specs.Setups.{Setup}
@@ -17,9 +17,8 @@ use Rattle.cluster_events.specs.ClientEvents.{post}
 use Rattle.cluster_events.specs.Events.{push_by}
 use Rattle.cluster_events.specs.Serving.{IsSteady}
 use Rattle.cluster_events.proofs.Carrying.{IsMadeItem, held-made, post_all-goes, push-goes}
-use Rattle.mirror.specs.declared.heard.Role.TheVariants.{Active}
 use Rattle.mirror.specs.declared.state.NodeState.{NodeState as Node}
-use Rattle.mirror.specs.Replicas.{ReplicaState, at_rest}
+use Rattle.mirror.specs.Replicas.{at_rest}
 use Rattle.lead_server.specs.Heard.{HoldsInRange, IsHeldBy, PushesPartly}
 use Rattle.cluster_clients.specs.Spelled.{AreSpelled}
 use Rattle.cluster_clients.specs.Posted.{posted_all, lines_all, PostsAll, PostsSome}
@@ -46,12 +45,6 @@ owes-none setup past (Ready entry) empty = cc
 
 pub rests-in : (setup : Setup) (past : List Entry) (hand : Hand) (linked : Bool) (node : Node) → node ≡ lead_by setup past hand linked → hand ≡ Empty → node.replica ≡ at_rest setup past
 rests-in setup past hand linked node led empty = ap (λ (n : Node). n.replica) led ∙ owes-none setup past hand empty
-
-pub idle-owes : (setup : Setup) (past : List Entry) (node : Node) → node.replica ≡ at_rest setup past → node.replica.owed ≡ None
-idle-owes setup past node rests = ap (λ (replica : ReplicaState). replica.owed) rests
-
-pub idle-acts : (setup : Setup) (past : List Entry) (node : Node) → node.replica ≡ at_rest setup past → node.replica.role ≡ Active
-idle-acts setup past node rests = ap (λ (replica : ReplicaState). replica.role) rests
 
 module _ {P S : Type 0} (kit : Kit P S) (laws : IsKit kit) where
   -- Posting one message after another is posting all.

@@ -1,4 +1,4 @@
-use Rattle.std.proofs.Common.{Bool, inl, subst}
+use Rattle.std.proofs.Common.{Bool, subst}
 use Rattle.std.proofs.lemmas.Result.{on_ok_weaker}
 use Rattle.script_lines.specs.declared.line.Line.{Line}
 use Rattle.cluster_clients.proofs.DispatchSteps.{on-err}
@@ -7,6 +7,8 @@ use Rattle.cluster_rounds.specs.Delivered.{Delivers}
 use Rattle.cluster_rounds.specs.Worlds.{Does}
 use Rattle.cluster_lines.specs.Showing.{refused}
 use Rattle.cluster_lines.proofs.LineBroken.{alone-as}
+use Rattle.cluster_lines.proofs.WildLines.{same-wild}
+use Rattle.cluster_rounds.proofs.WildSteps.{on-ok}
 use Rattle.cold_servers.specs.ColdKit.{cold_kit}
 use Rattle.cold_servers.specs.ColdLaws.{cold_laws}
 use Rattle.cold_servers.specs.Ignoring.{IsAskingAt}
@@ -14,7 +16,7 @@ use Rattle.cold_servers.proofs.DownSteps.{delivers-ignored, delivers-none, deliv
 use Rattle.cold_servers.proofs.downing.deliver_line.Goals as goal
 
 pub deliver-requires : goal.deliver-requires
-deliver-requires g c = inl c.requires.state
+deliver-requires g c = c.requires.state
 
 pub returns-then-asking-clause-ok : goal.returns-then-asking-clause-ok
 returns-then-asking-clause-ok g c =
@@ -44,3 +46,12 @@ returns-else-done-clause-err g c =
     let D : Bool → Type 0 = λ done. Delivers cold_kit c.args.place done c.args.world.now c.deliver.new.world c.args.lines.now.items c.deliver.new.lines.items in
     let none = subst D c.if-done.false c.in-Ok-deliver.ensures.ok in
     on-err c.refuse.result ((alone-as cold_kit cold_laws) c.args.world.now c.deliver.new.world none.0)
+
+pub returns-then-asking-clause-wild : goal.returns-then-asking-clause-wild
+returns-then-asking-clause-wild g c = on-ok c.put_ignored.result ((same-wild cold_kit cold_laws) c.args.world.now)
+
+pub returns-then-done-clause-wild : goal.returns-then-done-clause-wild
+returns-then-done-clause-wild g c = c.in-Ok-deliver.ensures.wild
+
+pub returns-else-done-clause-wild : goal.returns-else-done-clause-wild
+returns-else-done-clause-wild g c = on-ok c.refuse.result c.in-Ok-deliver.ensures.wild

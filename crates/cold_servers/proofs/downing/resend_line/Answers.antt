@@ -7,11 +7,13 @@ use Rattle.client_agent.specs.Seen.{Seen}
 use Rattle.cluster_clients.specs.Clients.{StandsAt, IsAbsent}
 use Rattle.cluster_clients.proofs.DispatchSteps.{on-err}
 use Rattle.cluster_rounds.proofs.BrokenClients.{same-breaks}
-use Rattle.cluster_rounds.proofs.ChainSteps.{all-range, resent-standing}
+use Rattle.cluster_rounds.proofs.WildSteps.{on-ok}
+use Rattle.cluster_lines.proofs.WildLines.{same-wild}
 use Rattle.cold_servers.specs.ColdKit.{cold_kit}
 use Rattle.cold_servers.specs.ColdLaws.{cold_laws}
 use Rattle.cold_servers.specs.Ignoring.{IgnoresAll}
 use Rattle.cold_servers.proofs.DownSteps.{resends-down, resends-none}
+use Rattle.cold_servers.proofs.SilentLines.{resent-so}
 use Rattle.cold_servers.proofs.downing.resend_line.Goals as goal
 
 pub returns-in-None-clause-ok : goal.returns-in-None-clause-ok
@@ -24,7 +26,7 @@ ignore_all-done-requires c =
     let found : StandsAt c.args.client c.in-Some.at old.agents = subst (StandsAt c.args.client c.in-Some.at) c.as_slice.ensures c.in-Some.ensures.own in
     let is : agent ≡ get_or old.agents c.in-Some.at agent = c.index-as_slice-at.is ∙ ap (λ (s : List Seen). get_or s c.in-Some.at agent) c.as_slice-2.ensures in
     subst (AllByRecursion MessageInRange) (sym c.as_slice-in-Ok.ensures)
-    ((all-range cold_kit cold_laws) c.in-Ok.messages old ((resent-standing cold_kit cold_laws) c.args.client c.in-Some.at old agent c.in-Ok.messages c.requires found is c.in-Ok.ensures))
+    (resent-so c.args.client c.in-Some.at old agent c.in-Ok.messages c.requires found is c.in-Ok.ensures)
 
 pub returns-in-Ok-clause-ok : goal.returns-in-Ok-clause-ok
 returns-in-Ok-clause-ok c =
@@ -40,3 +42,9 @@ returns-in-Ok-clause-err c = on-err c.ignore_all-done.result ((same-breaks cold_
 
 pub returns-in-Err-clause-err : goal.returns-in-Err-clause-err
 returns-in-Err-clause-err c = (same-breaks cold_kit cold_laws) c.args.world.now
+
+pub returns-in-None-clause-wild : goal.returns-in-None-clause-wild
+returns-in-None-clause-wild c = (same-wild cold_kit cold_laws) c.args.world.now
+
+pub returns-in-Ok-clause-wild : goal.returns-in-Ok-clause-wild
+returns-in-Ok-clause-wild c = on-ok c.ignore_all-done.result ((same-wild cold_kit cold_laws) c.args.world.now)

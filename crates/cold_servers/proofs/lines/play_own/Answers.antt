@@ -1,11 +1,11 @@
 use Rattle.std.proofs.Common.{◌≡◌, false, refl, sym, subst}
 use Rattle.std.specs.Prelude.{Ok}
 use Rattle.script_lines.specs.declared.line.Line.{Line}
+use Rattle.script_lines.specs.declared.line.Line.TheVariants.{Disarm}
 use Rattle.cluster_lines.specs.Lines.{shows_files}
-use Rattle.cluster_lines.specs.Own.{PlaysLine}
-use Rattle.cold_servers.specs.ColdKit.{cold_kit, cold_script}
+use Rattle.cold_servers.specs.ColdKit.{cold_kit}
 use Rattle.cold_servers.specs.ColdSeen.{ColdSeen}
-use Rattle.cold_servers.specs.Steps.{IsRefusedUp}
+use Rattle.cold_servers.specs.Steps.{IsRefusedUp, PlaysUp}
 use Rattle.cold_servers.proofs.OwnLines.{disarm-line}
 use Rattle.cold_servers.proofs.lines.play_own.Goals as goal
 
@@ -37,7 +37,14 @@ refuse_line-requires g c =
 pub returns-in-Disarm : goal.returns-in-Disarm
 returns-in-Disarm g c =
     let old = c.args.world.now in
+    let new = c.disarm.new.world in
+    let lines = c.args.lines.now.items in
     let held : ColdSeen = cold_kit.see (g.D.SharedDisk.seen c.args.disk.now) (g.J.SharedDisk.seen c.args.beside.now) in
     let left : ColdSeen = cold_kit.see (g.D.SharedDisk.seen c.disarm.new.disk) (g.J.SharedDisk.seen c.disarm.new.beside) in
-    subst (λ (next : Line). PlaysLine cold_kit cold_script (Ok _) next old c.disarm.new.world c.args.lines.now.items c.args.lines.now.items held left) (sym c.in-Disarm.is)
-    (disarm-line _ old c.disarm.new.world c.args.lines.now.items held left c.requires.state c.requires.up (c.disarm.ensures c.args.lines.now.items))
+    let line : PlaysUp {T = Unit {0}} (Ok _) Disarm old new lines lines held left = record {
+      states = λ has. disarm-line _ old new lines held left has c.requires.up.states (c.disarm.ensures.states lines);
+      wild = λ seen wild so. c.disarm.ensures.wild seen wild;
+      counts = c.disarm.ensures.counts;
+    }
+    in
+    subst (λ (next : Line). PlaysUp {T = Unit {0}} (Ok _) next old new lines lines held left) (sym c.in-Disarm.is) line

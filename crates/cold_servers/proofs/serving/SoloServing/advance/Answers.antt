@@ -1,4 +1,3 @@
-use Rattle.std.proofs.Common.{⊎_elim}
 use Rattle.cluster_rounds.proofs.BrokenClients.{same-breaks-if}
 use Rattle.cluster_rounds.proofs.CameSteps.{alone-off}
 use Rattle.cluster_rounds.specs.Rounds.{EndsStep}
@@ -8,7 +7,7 @@ use Rattle.cold_servers.specs.ColdLaws.{cold_laws}
 use Rattle.cold_servers.proofs.serving.SoloServing.advance.Goals as goal
 
 pub advance-requires : goal.advance-requires
-advance-requires g c = record { state = ⊎_elim (λ has. has) (λ wild. absurd wild.wild.servers) c.requires; up = c.if-is_up.ensures }
+advance-requires g c = record { state = c.requires; up = c.if-is_up.ensures }
 
 pub returns-clause-err : goal.returns-clause-err
 returns-clause-err g c =

@@ -1,4 +1,3 @@
-use Rattle.std.proofs.Common.{⊎_elim}
 use Rattle.cluster_rounds.proofs.BrokenClients.{same-breaks-if}
 use Rattle.cluster_rounds.specs.Worlds.{StandsIn}
 use Rattle.cold_servers.specs.ColdKit.{cold_kit}
@@ -7,7 +6,7 @@ use Rattle.cold_servers.proofs.serving.SoloServing.hear.Goals as goal
 
 pub hear-requires : goal.hear-requires
 hear-requires c = record {
-  state = ⊎_elim (λ has. has) (λ wild. absurd wild.1.wild.servers) c.requires.state;
+  state = c.requires.state;
   up = c.if-is_up.ensures;
   range = c.requires.range;
 }
