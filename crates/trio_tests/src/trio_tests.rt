@@ -12,17 +12,17 @@ use std::thread::Threads;
 use trio_lines::parse_trio;
 use trio_runs::{law_of_trio_scripts, play_trio};
 
-/// The number alone; 0 is that of no call.
-fn only(rt: &impl Abort, alloc: Global, number: u64) -> Vec<u64> {
-    [number].to_vec(alloc).expect(rt, "memory")
+/// The numbers of calls as a list.
+fn calls(rt: &impl Abort, alloc: Global, numbers: &[u64]) -> Vec<u64> {
+    numbers.to_vec(alloc).expect(rt, "memory")
 }
 
-/// The status with which a script ends over a disk in which the changing call of this number fails; 99 where it is no script.
+/// The status with which a script ends over a disk in which the changing calls of these numbers fail; 99 where it is no script.
 fn plays<R: Abort + Threads + Wait + Sync>(
     rt: &R,
     alloc: Global,
     text: &[u8],
-    failing: u64,
+    failing: &[u64],
     out: &mut MemSink,
 ) -> u8 {
     if text.len() > 10_000 {
@@ -31,8 +31,8 @@ fn plays<R: Abort + Threads + Wait + Sync>(
     match parse_trio(alloc, text) {
         Ok(lines) => {
             law_of_trio_scripts();
-            let calls = only(rt, alloc, failing);
-            let mut disk = MemDisk::new(alloc, calls, Vec::new(alloc), Vec::new(alloc));
+            let failing = calls(rt, alloc, failing);
+            let mut disk = MemDisk::new(alloc, failing, Vec::new(alloc), Vec::new(alloc));
             // A run begins on a disk that is not armed.
             disk.disarm();
             let mut world = TrioWorld::empty(alloc);
@@ -44,18 +44,19 @@ fn plays<R: Abort + Threads + Wait + Sync>(
     }
 }
 
-/// A script ends with status 0 and prints this text.
+/// A script ends with this status and prints this text.
 fn prints<R: Abort + Threads + Wait + Sync>(
     rt: &R,
     alloc: Global,
     text: &[u8],
-    failing: u64,
+    failing: &[u64],
+    ends: u8,
     printed: &[u8],
 ) {
-    let mut out = MemSink::new(alloc, only(rt, alloc, 0));
+    let mut out = MemSink::new(alloc, calls(rt, alloc, &[]));
     let status = plays(rt, alloc, text, failing, &mut out);
-    assert!(rt; status == 0, "{status}");
-    assert!(rt; out.written() == printed, "{failing}");
+    assert!(rt; status == ends, "{status}");
+    assert!(rt; out.written() == printed, "another text");
     drop(out);
 }
 
@@ -74,50 +75,82 @@ fn joined(rt: &impl Abort, alloc: Global, texts: &[&str]) -> Vec<u8> {
 }
 
 #[test]
-fn two_servers_fall_and_the_third_serves(rt: HostRuntime) {
+fn servers_fall_and_join_and_others_serve(rt: HostRuntime) {
     let alloc = rt.alloc();
     for row in PLAYED.split('`') {
         let (script, printed) = parts(&rt, row);
-        prints(&rt, alloc, script.as_bytes(), 0, printed.as_bytes());
+        prints(&rt, alloc, script.as_bytes(), &[], 0, printed.as_bytes());
     }
 }
 
-/// The active server stops at a call, and a call of this number fails, or none.
+/// The active server stops at a call of its work, and these calls of the disk fail behind it. What is told of the servers then, and whether
+/// one is left to go on.
 fn stops<R: Abort + Threads + Wait + Sync>(
     rt: &R,
     alloc: Global,
     call: &str,
-    failing: u64,
+    failing: &[u64],
     goes: &str,
+    serves: bool,
 ) {
     let (before, behind) = parts(rt, ARMED);
     let (first, last) = parts(rt, STOPPED);
     let script = joined(rt, alloc, &[before, call, behind]);
-    let printed = joined(rt, alloc, &[first, goes, last]);
-    prints(rt, alloc, script.as_slice(), failing, printed.as_slice());
+    let printed = joined(rt, alloc, &[first, goes, if serves { last } else { "" }]);
+    let ends = if serves { 0 } else { 6 };
+    prints(
+        rt,
+        alloc,
+        script.as_slice(),
+        failing,
+        ends,
+        printed.as_slice(),
+    );
     drop(script);
     drop(printed);
 }
 
+/// The calls of the work, and which calls of the disk they are.
+const CALLS: [(&str, u64); 5] = [("1", 20), ("2", 21), ("3", 22), ("4", 23), ("5", 24)];
+
 #[test]
 fn the_active_server_stops_at_each_call(rt: HostRuntime) {
     let alloc = rt.alloc();
-    for call in ["1", "2", "3", "4", "5"] {
-        stops(&rt, alloc, call, 0, "server b active\n");
+    for (call, _) in CALLS {
+        stops(&rt, alloc, call, &[], "server b active\n", true);
     }
 }
 
 #[test]
-fn and_the_first_takeover_fails(rt: HostRuntime) {
+fn and_the_first_takeover_fails_at_each_call(rt: HostRuntime) {
     let alloc = rt.alloc();
-    for (call, failing) in [("1", 21), ("2", 22), ("3", 23), ("4", 24), ("5", 25)] {
-        stops(
-            &rt,
-            alloc,
-            call,
-            failing,
-            "server b down\nserver c active\n",
-        );
+    let goes = "server b down\nserver c active\n";
+    for (call, number) in CALLS {
+        for first in 1..6 {
+            stops(
+                &rt,
+                alloc,
+                call,
+                &[number.saturating_add(first)],
+                goes,
+                true,
+            );
+        }
+    }
+}
+
+#[test]
+fn and_the_second_fails_at_each_call(rt: HostRuntime) {
+    let alloc = rt.alloc();
+    let goes = "server b down\nserver c down\ndisk fault\n";
+    for (call, number) in CALLS {
+        for first in 1..6 {
+            let failed = number.saturating_add(first);
+            for second in 1..6 {
+                let failing = [failed, failed.saturating_add(second)];
+                stops(&rt, alloc, call, &failing, goes, false);
+            }
+        }
     }
 }
 
