@@ -26,7 +26,7 @@ module _ {S K D : Type 0} (run : Around S K D) (query : RecordQuery) (asked : co
   scan-run (Some ScriptRefused) text ends = NoExpression query.kind (inr (query, asked, refl)) all ends.0 ends.1
   scan-run (Some ReadFault) text ends = record { words = inr (can-by ends.0 ends.1); all = all; why = ends.2 }
   scan-run (Some TooLong) text ends = record { words = inr (can-by ends.0 ends.1); all = all; why = ends.2 }
-  scan-run (Some JournalRefused) text ends = absurd ends
+  scan-run (Some JournalRefused) text ends = absurd ends.2.2
   scan-run (Some Inseparable) text ends =
       record { cannot = record { query = query; asked = asked; why = ends.1 }; all = all; source = ends.0 }
   scan-run (Some Usage) text ends = absurd ends.2.2
