@@ -21,7 +21,7 @@ use disk_model::{DiskAnswer, SharedDisk};
 use journal_start::Journal;
 use lone_server::link_journal;
 use message_net::Net;
-use mirror::{Node, Role};
+use mirror::{Node, Role, let_node_go};
 use script::well_attrs;
 use script_lines::{Line, WellOptions};
 use service_core::Service;
@@ -30,7 +30,7 @@ use std::mem;
 use stream_config::StreamAttrs;
 use stream_files::perform;
 use stream_layout::Deed;
-use wire::Message;
+use wire::{Message, let_message_go};
 
 /// What a cluster line begins: the server, linked to its journal; the message that brings the value of its service; the deeds of the
 /// start; the time, and how many callbacks each agent's queue holds.
@@ -67,7 +67,7 @@ fn start_linked(alloc: Global, service: Service) -> Result<Node, AllocError>
     match link_journal(alloc, &mut node, 0) {
         Ok(()) => Ok(node),
         Err(error) => {
-            mem::drop(node);
+            let_node_go(node);
             Err(error)
         }
     }
@@ -91,7 +91,7 @@ fn start_from(
     let saved = match service.save(alloc) {
         Ok(saved) => saved,
         Err(error) => {
-            mem::drop(service);
+            let_node_go(Node::start(alloc, Role::Active, service));
             mem::drop(deeds);
             return Err(error);
         }
@@ -99,7 +99,7 @@ fn start_from(
     match start_linked(alloc, service) {
         Ok(node) => Ok((node, Message::Snapshot { saved }, deeds)),
         Err(error) => {
-            mem::drop(saved);
+            let_message_go(Some(Message::Snapshot { saved }));
             mem::drop(deeds);
             Err(error)
         }
@@ -136,6 +136,20 @@ fn opened(alloc: Global, line: &Line) -> Result<Opening, AllocError>
     }
 }
 
+/// Lets go what a cluster line begins.
+fn let_opening_go(opening: Opening) {
+    let Opening {
+        node,
+        snapshot,
+        deeds,
+        start: _,
+        callbacks: _,
+    } = opening;
+    let_node_go(node);
+    let_message_go(Some(snapshot));
+    mem::drop(deeds);
+}
+
 /// A world in which nothing was posted, with this server and journal.
 fn world_of(alloc: Global, opening: Opening, journal: Journal) -> ColdWorld
     ensures { result ≡ world_of opening.node journal opening.start opening.callbacks }
@@ -147,7 +161,7 @@ fn world_of(alloc: Global, opening: Opening, journal: Journal) -> ColdWorld
         start,
         callbacks,
     } = opening;
-    mem::drop(snapshot);
+    let_message_go(Some(snapshot));
     mem::drop(deeds);
     ColdWorld {
         node,
@@ -218,17 +232,17 @@ impl ColdWorld {
         match perform(disk, &opening.deeds) {
             Ok(()) => {}
             Err(answer) => {
-                mem::drop(opening);
+                let_opening_go(opening);
                 return Err(broken(alloc, answer));
             }
         }
         match Journal::make(alloc, journal, &opening.snapshot) {
             Ok(made) => {
-                mem::drop(mem::replace(self, world_of(alloc, opening, made)));
+                mem::replace(self, world_of(alloc, opening, made)).end();
                 Ok(())
             }
             Err(answer) => {
-                mem::drop(opening);
+                let_opening_go(opening);
                 Err(broken(alloc, answer))
             }
         }

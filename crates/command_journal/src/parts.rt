@@ -232,6 +232,6 @@ pub(crate) fn play_whole<R: Threads + Wait + Sync, D: SharedDisk, J: SharedDisk,
 {
     let mut parts = take_parts(alloc, world);
     let played = play_line(rt, alloc, &mut parts, lines, line, disk, journal, gate);
-    mem::drop(mem::replace(world, put_parts(parts)));
+    mem::replace(world, put_parts(parts)).end();
     played
 }

@@ -3,14 +3,14 @@ ghost use Rattle.std.specs.Prelude.{◌≡◌};
 ghost use Rattle.command_journal.specs.Worlds.{empty_cold};
 
 use ais_values::Seq;
-use calls::History;
-use client_agent::Agent;
+use calls::{History, let_history_go};
+use client_agent::{Agent, let_agents_go};
 use journal_start::Journal;
 use message_net::Net;
-use mirror::Node;
+use mirror::{Node, let_node_go};
 use std::alloc::Global;
 use std::mem;
-use wire::Message;
+use wire::{Message, let_messages_go};
 
 /// One server and its journal on a second disk, with the messages on the way to the journal and back, the net, the clients' agents by
 /// rising client, and what was committed.
@@ -52,6 +52,23 @@ impl ColdWorld {
 
     /// Lets the world go, with all that it holds, at one place for all who have one.
     pub fn end(self) {
-        mem::drop(self);
+        let ColdWorld {
+            node,
+            journal: _,
+            link,
+            back,
+            net,
+            agents,
+            history,
+            now: _,
+            armed: _,
+            callbacks: _,
+        } = self;
+        let_node_go(node);
+        let_messages_go(link);
+        let_messages_go(back);
+        mem::drop(net);
+        let_agents_go(agents);
+        let_history_go(history);
     }
 }
