@@ -11,6 +11,9 @@ use Rattle.script_lines.specs.declared.line.Server.TheVariants.{A, B, C}
 use Rattle.plain_service.specs.Setups.{Setup}
 use Rattle.plain_service.specs.Storing.{files_of}
 use Rattle.service_laws.specs.PlainOf.{plain_of}
+use Rattle.cluster_facts.specs.Types.{Entry}
+use Rattle.cluster_facts.specs.History.{committed}
+use Rattle.cluster_events.specs.Ending.{is_crash}
 use Rattle.cluster_events.specs.Outcomes.{Outcome}
 use Rattle.cluster_events.specs.Servers.{State}
 use Rattle.cluster_events.specs.Running.{Shelf, list_files, show_file}
@@ -18,8 +21,8 @@ use Rattle.cluster_rounds.specs.declared.cluster.Cluster.{Cluster}
 use Rattle.cluster_rounds.specs.Broken.{Broken}
 use Rattle.cluster_rounds.specs.Counted.{Counted}
 use Rattle.cluster_rounds.specs.Kits.{device_by}
-use Rattle.cluster_rounds.specs.Wild.{StandsOn, always}
-use Rattle.cluster_rounds.specs.Worlds.{HasStateOn, IsGood, Shows, any_state}
+use Rattle.cluster_rounds.specs.Wild.{GoesWild, HasWild, StandsOn, always}
+use Rattle.cluster_rounds.specs.Worlds.{Happened, IsGood, Shows, any_state}
 use Rattle.cluster_lines.specs.Lines.{shows_files}
 use Rattle.cluster_lines.specs.Playing.{BreaksOff, FaultLeaves, LineEnded, LooksBy, Played, Plays, SharesIn}
 use Rattle.cluster_lines.specs.Shelves.{shelf_at, shelf_of}
@@ -31,13 +34,13 @@ use Rattle.cold_cluster.specs.Lines.{ColdHappens, HappensBy, alone}
 use Rattle.cold_servers.specs.declared.solo.Solo.{Solo}
 use Rattle.cold_servers.specs.ColdKit.{SharesCold, cold_kit, cold_script}
 use Rattle.cold_servers.specs.ColdLaws.{cold_laws}
-use Rattle.cold_servers.specs.ColdSeen.{ColdSeen, HoldsFiles, TellsBoth}
-use Rattle.cold_servers.specs.Down.{CountsStart, IsDownLine, PlayedDown, PlaysDown, PlaysRestart, RestartBreaks, RestartLeaves}
+use Rattle.cold_servers.specs.ColdSeen.{ArmsBoth, ColdSeen, HoldsFiles, LeavesBoth, TellsBoth}
+use Rattle.cold_servers.specs.Down.{CountsStart, IsDownLine, PlayedDown, PlaysDown, PlaysRestart, RestartBreaks, RestartGoes, RestartLeaves}
 use Rattle.cold_servers.specs.Steps.{AreDown}
 use Rattle.command_journal.specs.declared.answer.EventAnswer.{EventAnswer}
 use Rattle.command_journal.specs.declared.world.ColdWorld.{ColdWorld}
 use Rattle.command_journal.specs.Parts.{CountsBy, PlaysLine, answered, asks_server, cold_as, is_start, whole_of}
-use Rattle.command_journal.specs.Playing.{BreaksLine, CannotStart, DoesEvent, DoesLine, EndedBy, EventBroken, FindsBy, LacksBy, LineDone, LineFailsBy, LineLacks, RisesInEvent}
+use Rattle.command_journal.specs.Playing.{BreaksLine, CannotStart, DoesEvent, DoesLine, EndedBy, EventBroken, FindsBy, FoundBy, LacksBy, LineDone, LineFailsBy, LineLacks, RisesInEvent}
 use Rattle.command_journal.specs.Worlds.{HasParts, parts_of}
 
 -- What a call of the parts asks for.
@@ -45,13 +48,7 @@ use Rattle.command_journal.specs.Worlds.{HasParts, parts_of}
 pub parts-stand : (parts : Cluster Solo) (seen : ColdSeen) → HasParts parts seen → (StandsOn cold_kit) any_state always parts seen
 parts-stand parts seen (inl stands) =
     inl (record { setup = stands.setup; state = stands.state; good = stands.good; shows = stands.shows; count = stands.count; so = tt })
-parts-stand parts seen (inr (silent, wild)) = inr wild
-
--- nothing is kept of parts that stand for no state
-pub stands-on : (parts : Cluster Solo) (seen : ColdSeen) → HasParts parts seen → (HasStateOn cold_kit) any_state parts seen
-stands-on parts seen (inl stands) =
-    record { setup = stands.setup; state = stands.state; good = stands.good; shows = stands.shows; count = stands.count; so = tt }
-stands-on parts seen (inr (silent, wild)) = absurd wild.wild.servers
+parts-stand parts seen (inr wild) = inr wild
 
 -- Files that are shown.
 
@@ -96,6 +93,23 @@ module _ (setup : Setup) (state : State Alone) (outcome : Outcome (State Alone))
 
 -- A line that is played as over any servers.
 
+-- a line that is no start from the journal
+abbrev IsNoStart : Bool → Line → Type 0
+IsNoStart up next = up ≡ false → is_start next ≡ true → ⊥
+
+-- a start that is shared is one while the server is up
+shared-apart : (next : Line) (state : State Alone) → SharesCold next state → IsNoStart state.peers.up next
+shared-apart (line.Restart A) state shared down start = cc
+shared-apart _ state shared down start = cc
+
+-- nothing is asked of what another line finds
+found-shared : (up : Bool) (next : Line) (setup : Setup) (past : List Entry) (held : Option Files) → IsNoStart up next → FoundBy up next setup past held
+found-shared true next setup past held apart = tt
+found-shared false (line.Restart A) setup past held apart = absurd (apart refl refl)
+found-shared false (line.Restart B) setup past held apart = tt
+found-shared false (line.Restart C) setup past held apart = tt
+found-shared false _ setup past held apart = tt
+
 done-of : (setup : Setup) (state : State Alone) (next : Line) (new : Cluster Solo) (before after : List (List ℕ)) (held left : ColdSeen) → SharesCold next state → TellsBoth setup state held → (Played cold_kit cold_script) setup state next new before after held left → LineDone setup state next new before after held left
 done-of setup state next new before after held left shared tells played =
     let none : played.happened ≡ (λ (number : ℕ). 0) = λ i. λ (number : ℕ). played.uses.never number i in
@@ -110,13 +124,10 @@ done-of setup state next new before after held left shared tells played =
       is = played.is;
       count = played.count;
       leaves = played.files;
+      found = found-shared state.peers.up next setup (committed played.outcome.state.world.core) held.journal.files (shared-apart next state shared);
     }
 
--- a line that is no start from the journal
-abbrev IsNoStart : Bool → Line → Type 0
-IsNoStart up next = up ≡ false → is_start next ≡ true → ⊥
-
-lacks-by : (up : Bool) (next : Line) (setup : Setup) (state : State Alone) (new : Cluster Solo) (held left : ColdSeen) → IsNoStart up next → Broken cold_kit setup state held left new → cold_kit.Lacks setup state new.history.entries new.servers held left → LacksBy up next setup state new held left
+lacks-by : (up : Bool) (next : Line) (setup : Setup) (state : State Alone) (new : Cluster Solo) (held left : ColdSeen) → IsNoStart up next → Broken cold_kit setup state held left new → cold_kit.Lacks (is_crash next) setup state new.history.entries new.servers held left → LacksBy up next setup state new held left
 lacks-by true next setup state new held left apart broken lacks = (broken, lacks)
 lacks-by false (line.Restart A) setup state new held left apart broken lacks = absurd (apart refl refl)
 lacks-by false (line.Restart B) setup state new held left apart broken lacks = (broken, lacks)
@@ -129,11 +140,6 @@ ended-by false setup state (line.Restart A) new before after held left apart end
 ended-by false setup state (line.Restart B) new before after held left apart ended = ended
 ended-by false setup state (line.Restart C) new before after held left apart ended = ended
 ended-by false setup state _ new before after held left apart ended = ended
-
--- a start that is shared is one while the server is up
-shared-apart : (next : Line) (state : State Alone) → SharesCold next state → IsNoStart state.peers.up next
-shared-apart (line.Restart A) state shared down start = cc
-shared-apart _ state shared down start = cc
 
 abbrev AreNoStart : Line → Cluster Solo → Type 0
 AreNoStart next old = (setup : Setup) (state : State Alone) → IsGood cold_kit setup state → Shows cold_kit setup state old → IsNoStart state.peers.up next
@@ -160,29 +166,52 @@ counts-of (Err answers.Memory) held left counted = counted
 counts-of (Err answers.Failed) held left counted = counted
 counts-of (Err answers.Stopped) held left counted = counted
 
+-- Behind a line that was done.
+
+still-good : (setup : Setup) (outcome : Outcome (State Alone)) (new : Cluster Solo) (before after : List (List ℕ)) (held left : ColdSeen) → (Happened cold_kit) setup outcome new before after → ArmsBoth outcome.state.peers left → LeavesBoth setup outcome.state held left → HasParts new left
+still-good setup outcome new before after held left is count leaves = inl (record {
+  setup = setup;
+  state = outcome.state;
+  good = is.1;
+  shows = is.0;
+  count = count;
+  tells = cold_laws.left_told setup outcome.state held left leaves;
+})
+
+still-wild : (done : Unit {0}) (old new : Cluster Solo) (held left : ColdSeen) → (HasWild cold_kit) always old held → (GoesWild cold_kit) {T = Unit {0}} always (Ok done) old new held left → HasParts new left
+still-wild done old new held left has goes =
+    let on = goes has.seen has.wild tt in inr (record { seen = on.now; wild = on.wild; so = tt })
+
 -- **what is played over any servers, and what is left of a line while the server is down**
 module _ (next : Line) (old new : Cluster Solo) (before after : List (List ℕ)) (held left : ColdSeen) where
-  as-done : (done : Unit {0}) → DoesLine next old new before after held left → Counted {T = Unit {0}} cold_kit held left (Ok done) → LooksBy next held.disk.files true held.disk.tally left.disk.tally → PlaysLine (cold_as (Ok done)) next old new before after held left
-  as-done done does counts looks = record { ok = does; broken = tt; counts = counts; looks = looks }
+  as-done : (done : Unit {0}) → DoesLine next old new before after held left → HasParts new left → Counted {T = Unit {0}} cold_kit held left (Ok done) → LooksBy next held.disk.files true held.disk.tally left.disk.tally → PlaysLine (cold_as (Ok done)) next old new before after held left
+  as-done done does stands counts looks = record { ok = does; stands = stands; broken = tt; counts = counts; looks = looks }
 
   as-broken : (answer : DiskAnswer) → AreNoStart next old → (BreaksOff cold_kit cold_script) answer next old new before after held left → Counted {T = Unit {0}} cold_kit held left (Err answer) → LooksBy next held.disk.files false held.disk.tally left.disk.tally → PlaysLine (cold_as {T = Unit {0}} (Err answer)) next old new before after held left
   as-broken answer apart broken counts looks = record {
     ok = tt;
+    stands = tt;
     broken = breaks-of answer next old new before after held left apart broken;
     counts = counts-of (Err answer) held left counts;
     looks = looks;
   }
 
-  pub plays-shared : (result : Result (Unit {0}) DiskAnswer) → (SharesIn cold_kit cold_script) next old → OnOk result ((Plays cold_kit cold_script) next old new before after held left) → IfErr result (λ answer. (BreaksOff cold_kit cold_script) answer next old new before after held left) → Counted cold_kit held left result → LooksBy next held.disk.files (is_ok result) held.disk.tally left.disk.tally → PlaysLine (cold_as result) next old new before after held left
-  plays-shared (Ok done) shares plays broken counts looks =
+  shared-still : (done : Unit {0}) → HasParts old held → (Plays cold_kit cold_script) next old new before after held left → (GoesWild cold_kit) {T = Unit {0}} always (Ok done) old new held left → HasParts new left
+  shared-still done (inl stands) plays goes =
+      let played = plays stands.setup stands.state stands.good stands.shows stands.count stands.tells in
+      still-good stands.setup played.outcome new before after held left played.is played.count played.files
+  shared-still done (inr has) plays goes = still-wild done old new held left has goes
+
+  pub plays-shared : (result : Result (Unit {0}) DiskAnswer) → HasParts old held → (SharesIn cold_kit cold_script) next old → OnOk result ((Plays cold_kit cold_script) next old new before after held left) → IfErr result (λ answer. (BreaksOff cold_kit cold_script) answer next old new before after held left) → (GoesWild cold_kit) {T = Unit {0}} always result old new held left → Counted cold_kit held left result → LooksBy next held.disk.files (is_ok result) held.disk.tally left.disk.tally → PlaysLine (cold_as result) next old new before after held left
+  plays-shared (Ok done) has shares plays broken goes counts looks =
       as-done done
       (λ setup state good shows count tells finds. done-of setup state next new before after held left (shares setup state good shows) tells (plays setup state good shows count tells))
-      counts looks
-  plays-shared (Err answer) shares plays broken counts looks =
+      (shared-still done has plays goes) counts looks
+  plays-shared (Err answer) has shares plays broken goes counts looks =
       as-broken answer (λ setup state good shows. shared-apart next state (shares setup state good shows)) broken counts looks
 
-  down-done : (setup : Setup) (state : State Alone) → TellsBoth setup state held → PlayedDown setup state next new before after held left → LineDone setup state next new before after held left
-  down-done setup state tells played = record {
+  down-done : (setup : Setup) (state : State Alone) → TellsBoth setup state held → (played : PlayedDown setup state next new before after held left) → FoundBy state.peers.up next setup (committed played.outcome.state.world.core) held.journal.files → LineDone setup state next new before after held left
+  down-done setup state tells played found = record {
     shelf = played.shelf;
     shown = λ shows. played.shelf_is;
     outcome = played.outcome;
@@ -191,12 +220,24 @@ module _ (next : Line) (old new : Cluster Solo) (before after : List (List ℕ))
     is = played.is;
     count = played.count;
     leaves = played.files tells;
+    found = found;
   }
 
-  pub plays-left : (result : Result (Unit {0}) DiskAnswer) → is_start next ≡ false → OnOk result (PlaysDown next old new before after held left) → IfErr result (λ answer. (BreaksOff cold_kit cold_script) answer next old new before after held left) → Counted cold_kit held left result → LooksBy next held.disk.files (is_ok result) held.disk.tally left.disk.tally → PlaysLine (cold_as result) next old new before after held left
-  plays-left (Ok done) apart plays broken counts looks =
-      as-done done (λ setup state good shows count tells finds. down-done setup state tells (plays setup state good shows count)) counts looks
-  plays-left (Err answer) apart plays broken counts looks =
+  left-still : (done : Unit {0}) → HasParts old held → PlaysDown next old new before after held left → (GoesWild cold_kit) {T = Unit {0}} always (Ok done) old new held left → HasParts new left
+  left-still done (inl stands) plays goes =
+      let played = plays stands.setup stands.state stands.good stands.shows stands.count in
+      still-good stands.setup played.outcome new before after held left played.is played.count (played.files stands.tells)
+  left-still done (inr has) plays goes = still-wild done old new held left has goes
+
+  pub plays-left : (result : Result (Unit {0}) DiskAnswer) → HasParts old held → is_start next ≡ false → OnOk result (PlaysDown next old new before after held left) → IfErr result (λ answer. (BreaksOff cold_kit cold_script) answer next old new before after held left) → (GoesWild cold_kit) {T = Unit {0}} always result old new held left → Counted cold_kit held left result → LooksBy next held.disk.files (is_ok result) held.disk.tally left.disk.tally → PlaysLine (cold_as result) next old new before after held left
+  plays-left (Ok done) has apart plays broken goes counts looks =
+      as-done done
+      (λ setup state good shows count tells finds.
+      let played = plays setup state good shows count in
+      down-done setup state tells played
+      (found-shared state.peers.up next setup (committed played.outcome.state.world.core) held.journal.files (λ down start. cc)))
+      (left-still done has plays goes) counts looks
+  plays-left (Err answer) has apart plays broken goes counts looks =
       as-broken answer (λ setup state good shows down start. cc) broken counts looks
 
 pub down-line : (next : Line) → asks_server next ≡ true → is_start next ≡ false → IsDownLine next
@@ -243,18 +284,20 @@ start-counts (Err (cold.Refused place)) held left counts = counts
 module _ (old new : Cluster Solo) (before after : List (List ℕ)) (held left : ColdSeen) where
   start-does : AreDown old → PlaysRestart old new before after held left → DoesLine (line.Restart A) old new before after held left
   start-does down plays setup state good shows count tells finds =
-      down-done (line.Restart A) old new before after held left setup state tells
-      (plays setup state good shows count tells (found-told state.peers.up held (down setup state good shows) finds))
+      let is = down.states setup state good shows in
+      let both = plays setup state good shows count tells (found-told state.peers.up held is finds) in
+      down-done (line.Restart A) old new before after held left setup state tells both.0
+      (subst (λ (b : Bool). FoundBy b (line.Restart A) setup (committed both.0.outcome.state.world.core) held.journal.files) (sym is) both.1)
 
   -- a journal that is told has what is to be found
   start-silent : (answer : ColdAnswer) → ((setup : Setup) (state : State Alone) → RestartLeaves answer setup state new before after held left → ⊥) → HasParts old held → RestartBreaks answer old new before after held left → held.journal.files ≡ None
   start-silent answer never (inl stands) breaks =
       silent-of held.journal.files (λ told. never stands.setup stands.state (breaks stands.setup stands.state stands.good stands.shows stands.count stands.tells told))
-  start-silent answer never (inr (silent, wild)) breaks = silent
+  start-silent answer never (inr has) breaks = has.wild.servers.untold
 
   start-lacks : AreDown old → RestartBreaks cold.Memory old new before after held left → LineLacks (line.Restart A) old new held left
   start-lacks down breaks setup state good shows count tells finds =
-      let is = down setup state good shows in
+      let is = down.states setup state good shows in
       subst (λ (b : Bool). LacksBy b (line.Restart A) setup state new held left) (sym is)
       (breaks setup state good shows count tells (found-told state.peers.up held is finds))
 
@@ -263,10 +306,11 @@ module _ (old new : Cluster Solo) (before after : List (List ℕ)) (held left : 
   Same answer =
       IsOfDisk answer ⊎ ((new ≡ old) × (after ≡ before) × (left.disk.files ≡ held.disk.files) × (left.journal.files ≡ held.journal.files))
 
-  start-none : HasParts old held → (answer : ColdAnswer) → (IsOfDisk answer → ⊥) → ((setup : Setup) (state : State Alone) → RestartLeaves answer setup state new before after held left → ⊥) → RestartBreaks answer old new before after held left → Same answer → CannotStart (line.Restart A) old new held left
-  start-none has answer apart never breaks (inl of_disk) = absurd (apart of_disk)
-  start-none has answer apart never breaks (inr same) = record {
+  start-none : AreDown old → HasParts old held → (answer : ColdAnswer) → (IsOfDisk answer → ⊥) → ((setup : Setup) (state : State Alone) → RestartLeaves answer setup state new before after held left → ⊥) → RestartBreaks answer old new before after held left → Same answer → CannotStart (line.Restart A) old new held left
+  start-none down has answer apart never breaks (inl of_disk) = absurd (apart of_disk)
+  start-none down has answer apart never breaks (inr same) = record {
     line = refl;
+    down = down;
     silent = start-silent answer never has breaks;
     world = same.0;
     disk = same.2;
@@ -277,40 +321,40 @@ module _ (old new : Cluster Solo) (before after : List (List ℕ)) (held left : 
   start-breaks down has cold.Memory breaks same = start-lacks down breaks
   start-breaks down has cold.Failed breaks same =
       λ setup state good shows count tells finds.
-      let is = down setup state good shows in
+      let is = down.states setup state good shows in
       subst (λ (b : Bool). EndedBy b setup state (line.Restart A) new before after held left) (sym is)
       (breaks setup state good shows count tells (found-told state.peers.up held is finds))
   start-breaks down has cold.Stopped breaks same =
-      λ setup state good shows count tells finds. breaks setup state good shows count tells (found-told state.peers.up held (down setup state good shows) finds)
+      λ setup state good shows count tells finds. breaks setup state good shows count tells (found-told state.peers.up held (down.states setup state good shows) finds)
   start-breaks down has cold.NoJournal breaks same =
-      start-none has cold.NoJournal (λ of_disk. of_disk) (λ setup state never. never) breaks same
+      start-none down has cold.NoJournal (λ of_disk. of_disk) (λ setup state never. never) breaks same
   start-breaks down has (cold.Refused place) breaks same =
-      start-none has (cold.Refused place) (λ of_disk. of_disk) (λ setup state never. never) breaks same
+      start-none down has (cold.Refused place) (λ of_disk. of_disk) (λ setup state never. never) breaks same
 
-  pub plays-start : (result : Result (Unit {0}) ColdAnswer) → AreDown old → HasParts old held → OnOk result (PlaysRestart old new before after held left) → IfErr result (λ answer. RestartBreaks answer old new before after held left) → IfErr result Same → CountsStart result held left → PlaysLine result (line.Restart A) old new before after held left
-  plays-start (Ok done) down has plays broken same counts =
-      record { ok = start-does down plays; broken = tt; counts = start-counts (Ok done) held left counts; looks = λ own. cc }
-  plays-start (Err answer) down has plays broken same counts =
-      record { ok = tt; broken = start-breaks down has answer broken same; counts = start-counts (Err answer) held left counts; looks = λ own. cc }
+  -- where the journal is told it is known what was found, and else the parts go on
+  start-still : (told : Option Files) → held.journal.files ≡ told → HasParts old held → PlaysRestart old new before after held left → RestartGoes new held left → HasParts new left
+  start-still None is has plays goes = inr (goes is)
+  start-still (Some files) is (inl stands) plays goes =
+      let told : IsSome held.journal.files = subst IsSome (sym is) refl in
+      let played = (plays stands.setup stands.state stands.good stands.shows stands.count stands.tells told).0 in
+      still-good stands.setup played.outcome new before after held left played.is played.count (played.files stands.tells)
+  start-still (Some files) is (inr has) plays goes = inr (goes has.wild.servers.untold)
 
--- Behind a line that was done.
-
-finds-by : (up : Bool) (next : Line) (held : ColdSeen) → FindsBy false next held → FindsBy up next held
-finds-by true next held finds = tt
-finds-by false next held finds = finds
-
-pub still-stands : (next : Line) (old new : Cluster Solo) (before after : List (List ℕ)) (held left : ColdSeen) → HasParts old held → FindsBy false next held → DoesLine next old new before after held left → HasParts new left
-still-stands next old new before after held left (inl stands) finds does =
-    let done = does stands.setup stands.state stands.good stands.shows stands.count stands.tells (finds-by stands.state.peers.up next held finds) in
-    inl (record {
-      setup = stands.setup;
-      state = done.outcome.state;
-      good = done.is.1;
-      shows = done.is.0;
-      count = done.count;
-      tells = cold_laws.left_told stands.setup done.outcome.state held left done.leaves;
-    })
-still-stands next old new before after held left (inr (silent, wild)) finds does = absurd wild.wild.servers
+  pub plays-start : (result : Result (Unit {0}) ColdAnswer) → AreDown old → HasParts old held → OnOk result (PlaysRestart old new before after held left) → OnOk result (RestartGoes new held left) → IfErr result (λ answer. RestartBreaks answer old new before after held left) → IfErr result Same → CountsStart result held left → PlaysLine result (line.Restart A) old new before after held left
+  plays-start (Ok done) down has plays goes broken same counts = record {
+    ok = start-does down plays;
+    stands = start-still held.journal.files refl has plays goes;
+    broken = tt;
+    counts = start-counts (Ok done) held left counts;
+    looks = λ own. cc;
+  }
+  plays-start (Err answer) down has plays goes broken same counts = record {
+    ok = tt;
+    stands = tt;
+    broken = start-breaks down has answer broken same;
+    counts = start-counts (Err answer) held left counts;
+    looks = λ own. cc;
+  }
 
 -- Of the world.
 

@@ -16,6 +16,7 @@ use Rattle.command_journal.specs.declared.answer.EventAnswer.{EventAnswer}
 use Rattle.command_journal.specs.declared.answer.EventAnswer.TheVariants as event
 use Rattle.command_journal.specs.declared.world.ColdWorld.{ColdWorld}
 use Rattle.command_journal.specs.Playing.{BreaksLine, DoesLine}
+use Rattle.command_journal.specs.Worlds.{HasParts}
 
 -- the world of these parts
 abbrev pub whole_of : Cluster Solo → ColdWorld
@@ -76,6 +77,7 @@ CountsBy held left _ = Outlives held left
 pub record PlaysLine {T : Type 0} (result : Result T ColdAnswer) (next : Line) (old new : Cluster Solo) (before after : List (List ℕ))
     (held left : ColdSeen) : Type 0 where
   pub ok : OnOk result (DoesLine next old new before after held left)
+  pub stands : OnOk result (HasParts new left)
   pub broken : IfErr result (λ answer. BreaksLine answer next old new before after held left)
   pub counts : CountsBy held left result
   pub looks : LooksBy next held.disk.files (is_ok result) held.disk.tally left.disk.tally

@@ -1,10 +1,14 @@
 -- Words of public clauses: what each line of a script does to a server and its journal, and what it leaves where it is not done.
-use Rattle.std.specs.Prelude.{◌≡◌, ℕ, Bool, true, false, None, IfSome, IsSome, List, [], Result, Ok, Err}
+use Rattle.std.specs.Prelude.{◌≡◌, ℕ, Bool, true, false, Option, None, IfSome, IsSome, List, [], Result, Ok, Err}
+use Rattle.disk_model.specs.Disk.{Files}
 use Rattle.script_lines.specs.declared.line.Line.{Line}
 use Rattle.script_lines.specs.declared.line.Line.TheVariants as line
 use Rattle.script_lines.specs.declared.line.Server.TheVariants.{A}
 use Rattle.plain_service.specs.Setups.{Setup}
 use Rattle.service_laws.specs.PlainOf.{plain_of}
+use Rattle.cluster_facts.specs.Types.{Entry}
+use Rattle.cluster_facts.specs.History.{committed}
+use Rattle.cluster_events.specs.Ending.{is_crash}
 use Rattle.cluster_events.specs.Outcomes.{Outcome}
 use Rattle.cluster_events.specs.Servers.{State}
 use Rattle.cluster_events.specs.Running.{Shelf}
@@ -21,13 +25,19 @@ use Rattle.cold_cluster.specs.Cold.{Alone}
 use Rattle.cold_cluster.specs.Lines.{ColdHappens}
 use Rattle.cold_servers.specs.declared.solo.Solo.{Solo}
 use Rattle.cold_servers.specs.ColdCounts.{Stood}
-use Rattle.cold_servers.specs.Down.{restart_kit}
+use Rattle.cold_servers.specs.Down.{IsFound, restart_kit}
+use Rattle.cold_servers.specs.Steps.{AreDown}
 use Rattle.cold_servers.specs.ColdKit.{cold_kit, cold_script}
 use Rattle.cold_servers.specs.ColdSeen.{ArmsBoth, ColdSeen, LeavesBoth, Outlives, Rises, TellsBoth}
 use Rattle.command_journal.specs.declared.answer.EventAnswer.{EventAnswer}
 use Rattle.command_journal.specs.declared.answer.EventAnswer.TheVariants.{Memory, DiskFault, Journal}
 use Rattle.command_journal.specs.declared.world.ColdWorld.{ColdWorld}
 use Rattle.command_journal.specs.Worlds.{parts_of}
+
+-- what `restart a` comes to while the server is down is what the journal held, where its disk tells that
+abbrev pub FoundBy : Bool → Line → Setup → List Entry → Option Files → Type 0
+FoundBy false (line.Restart A) setup past held = IsFound setup past held
+FoundBy up next setup past held = Unit {0}
 
 -- What a line led to and printed, with what the disks counted and hold: the parts stand for the state after it. `files` and `cat` show what
 -- stands on the record disk, where that tells its files.
@@ -41,6 +51,7 @@ pub record LineDone (setup : Setup) (state : State Alone) (next : Line) (new : C
   pub is : Happened cold_kit setup outcome new before after
   pub count : ArmsBoth outcome.state.peers left
   pub leaves : LeavesBoth setup outcome.state held left
+  pub found : FoundBy state.peers.up next setup (committed outcome.state.world.core) held.journal.files
 
 -- what `restart a` finds while the server is down is told where the journal's disk tells its files; any other line asks nothing of that
 abbrev pub FindsBy : Bool → Line → ColdSeen → Type 0
@@ -65,7 +76,7 @@ DoesLine next old new before after held left =
 abbrev pub LacksBy : Bool → Line → Setup → State Alone → Cluster Solo → ColdSeen → ColdSeen → Type 0
 LacksBy false (line.Restart A) setup state new held left = Broken restart_kit setup state held left new × Stood held left
 LacksBy up next setup state new held left =
-    Broken cold_kit setup state held left new × cold_kit.Lacks setup state new.history.entries new.servers held left
+    Broken cold_kit setup state held left new × cold_kit.Lacks (is_crash next) setup state new.history.entries new.servers held left
 
 abbrev pub LineLacks : Line → Cluster Solo → Cluster Solo → ColdSeen → ColdSeen → Type 0
 LineLacks next old new held left = OverStates (λ setup state. LacksBy state.peers.up next setup state new held left) next old held
@@ -85,6 +96,7 @@ LineFailsBy false next old new before after held left =
 -- `restart a` found no journal to start from: the server stays down, and nothing changed. A journal's disk that tells its files has one
 pub record CannotStart (next : Line) (old new : Cluster Solo) (held left : ColdSeen) : Type 0 where
   pub line : next ≡ line.Restart A
+  pub down : AreDown old
   pub silent : held.journal.files ≡ None
   pub world : new ≡ old
   pub disk : left.disk.files ≡ held.disk.files

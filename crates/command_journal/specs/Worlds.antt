@@ -1,5 +1,5 @@
 -- Words of public clauses: how a world of the code is a state of the definitions, over the record disk and the journal's.
-use Rattle.std.specs.Prelude.{◌≡◌, ◌⊎◌, pos, false, None, []}
+use Rattle.std.specs.Prelude.{◌⊎◌, pos, false, []}
 use Rattle.calls.specs.History.{empty_history}
 use Rattle.disk_model.specs.Seen.{DiskSeen}
 use Rattle.plain_service.specs.Setups.{Setup}
@@ -57,7 +57,7 @@ pub record Stands (parts : Cluster Solo) (seen : ColdSeen) : Type 0 where
 -- so it is; or the journal's disk tells no files, so that a cold start may have found any journal, and the parts go on though they may
 -- stand for no history
 abbrev pub HasParts : Cluster Solo → ColdSeen → Type 0
-HasParts parts seen = Stands parts seen ⊎ ((seen.journal.files ≡ None) × HasWild cold_kit always parts seen)
+HasParts parts seen = Stands parts seen ⊎ HasWild cold_kit always parts seen
 
 abbrev pub HasCold : ColdWorld → ColdSeen → Type 0
 HasCold world seen = HasParts (parts_of world) seen

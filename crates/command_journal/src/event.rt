@@ -43,7 +43,7 @@ fn answered(lines: Vec<Seq<u8>>, answer: ColdAnswer) -> EventAnswer
 }
 
 impl ColdWorld {
-    ghost use Rattle.command_journal.specs.Playing.{DoesEvent, EventBroken, FindsBy, RisesInEvent};
+    ghost use Rattle.command_journal.specs.Playing.{DoesEvent, EventBroken, RisesInEvent};
     ghost use Rattle.command_journal.specs.Worlds.{both, HasCold};
 
     /// Does what a line of a script asks for, and answers with the lines that it prints, each with its line feed. A cluster line and a
@@ -53,6 +53,9 @@ impl ColdWorld {
     /// `a` is the server, `b` the journal. Where a disk stops in `mirror`, `work` or `settle` the server goes down, which is told, and the
     /// line ends there. `restart a` starts it again from its journal: the history becomes the list of entries found, and what is new in it is
     /// told. While it is down nothing reaches it.
+    ///
+    /// Where the journal's disk tells no files nothing is said of what `restart a` finds there, which may be any fit journal. The world goes on
+    /// behind it: the requests of the net are the calls sent, and each reply names one of them, but nothing is said of what the server answers.
     ///
     /// No disk's count of faults falls in the call. `DiskFault` comes where one rose, with the lines of all that was done; the server is down
     /// then, and no disk armed, but for a line that shows files, which leaves all as it was and has no lines. `Journal` comes only for
@@ -81,8 +84,8 @@ impl ColdWorld {
         ensures ok { IfOk result (λ lines. DoesEvent line.now lines self.old self.new
             (both (D.seen disk.old) (J.seen journal.old))
             (both (D.seen disk.new) (J.seen journal.new))) }
-        ensures stands { FindsBy false line.now (both (D.seen disk.old) (J.seen journal.old)) →
-            OnOk result (HasCold self.new (both (D.seen disk.new) (J.seen journal.new))) }
+        ensures stands { OnOk result (HasCold self.new
+            (both (D.seen disk.new) (J.seen journal.new))) }
         ensures broken { IfErr result (λ answer. EventBroken answer line.now self.old self.new
             (both (D.seen disk.old) (J.seen journal.old))
             (both (D.seen disk.new) (J.seen journal.new))) }

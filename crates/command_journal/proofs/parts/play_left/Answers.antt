@@ -1,12 +1,12 @@
 use Rattle.std.proofs.Common.{subst, sym}
 use Rattle.command_journal.specs.Parts.{PlaysLine}
 use Rattle.command_journal.specs.Worlds.{both}
-use Rattle.command_journal.proofs.EventSteps.{down-line, plays-left, stands-on}
+use Rattle.command_journal.proofs.EventSteps.{down-line, parts-stand, plays-left}
 use Rattle.command_journal.proofs.parts.play_left.Goals as goal
 
 pub down_line-requires-clause-state : goal.down_line-requires-clause-state
 down_line-requires-clause-state g c =
-    stands-on c.args.parts.now (both (g.D.SharedDisk.seen c.args.disk.now) (g.J.SharedDisk.seen c.args.journal.now)) c.requires.state
+    parts-stand c.args.parts.now (both (g.D.SharedDisk.seen c.args.disk.now) (g.J.SharedDisk.seen c.args.journal.now)) c.requires.state
 
 pub down_line-requires-clause-line : goal.down_line-requires-clause-line
 down_line-requires-clause-line g c = down-line c.args.line.now c.requires.asks c.requires.start
@@ -20,4 +20,4 @@ returns g c =
     let before = c.args.lines.now.items in
     let after = c.down_line.new.lines.items in
     subst (λ result. PlaysLine result c.args.line.now old new before after held left) (sym c.as_cold.ensures)
-    (plays-left c.args.line.now old new before after held left c.down_line.result c.requires.start c.down_line.ensures.played.ok c.down_line.ensures.played.broken c.down_line.ensures.played.counts c.down_line.ensures.looks)
+    (plays-left c.args.line.now old new before after held left c.down_line.result c.requires.state c.requires.start c.down_line.ensures.played.ok c.down_line.ensures.played.broken c.down_line.ensures.wild c.down_line.ensures.played.counts c.down_line.ensures.looks)

@@ -17,4 +17,4 @@ returns g c =
     let before = c.args.lines.now.items in
     let after = c.play.new.lines.items in
     subst (λ result. PlaysLine result c.args.line.now old new before after held left) (sym c.as_cold.ensures)
-    (plays-shared c.args.line.now old new before after held left c.play.result c.requires.shares c.play.ensures.ok c.play.ensures.broken c.play.ensures.counts c.play.ensures.looks)
+    (plays-shared c.args.line.now old new before after held left c.play.result c.requires.state c.requires.shares c.play.ensures.ok c.play.ensures.broken c.play.ensures.wild c.play.ensures.counts c.play.ensures.looks)

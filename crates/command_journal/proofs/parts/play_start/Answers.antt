@@ -1,12 +1,12 @@
 use Rattle.std.proofs.Common.{subst, sym}
 use Rattle.command_journal.specs.Parts.{PlaysLine}
 use Rattle.command_journal.specs.Worlds.{both}
-use Rattle.command_journal.proofs.EventSteps.{plays-start, stands-on, start-is}
+use Rattle.command_journal.proofs.EventSteps.{parts-stand, plays-start, start-is}
 use Rattle.command_journal.proofs.parts.play_start.Goals as goal
 
 pub restart-requires-clause-state : goal.restart-requires-clause-state
 restart-requires-clause-state g c =
-    stands-on c.args.parts.now (both (g.D.SharedDisk.seen c.args.disk.now) (g.J.SharedDisk.seen c.args.journal.now)) c.requires.state
+    parts-stand c.args.parts.now (both (g.D.SharedDisk.seen c.args.disk.now) (g.J.SharedDisk.seen c.args.journal.now)) c.requires.state
 
 pub returns : goal.returns
 returns g c =
@@ -17,4 +17,4 @@ returns g c =
     let before = c.args.lines.now.items in
     let after = c.restart.new.lines.items in
     subst (λ line. PlaysLine c.restart.result line old new before after held left) (sym (start-is c.args.line.now c.requires.start))
-    (plays-start old new before after held left c.restart.result c.requires.down c.requires.state c.restart.ensures.ok c.restart.ensures.err c.restart.ensures.same c.restart.ensures.counts)
+    (plays-start old new before after held left c.restart.result c.requires.down c.requires.state c.restart.ensures.ok c.restart.ensures.wild c.restart.ensures.err c.restart.ensures.same c.restart.ensures.counts)

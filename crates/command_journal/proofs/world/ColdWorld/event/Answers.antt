@@ -1,6 +1,6 @@
 use Rattle.cluster_lines.proofs.LineSpelled.{spelled-fits}
-use Rattle.command_journal.specs.Worlds.{both, parts_of}
-use Rattle.command_journal.proofs.EventSteps.{event-broken, event-does, event-rises, still-stands}
+use Rattle.command_journal.specs.Worlds.{both}
+use Rattle.command_journal.proofs.EventSteps.{event-broken, event-does, event-rises}
 use Rattle.command_journal.proofs.world.ColdWorld.event.Goals as goal
 
 pub play_whole-requires-clause-range : goal.play_whole-requires-clause-range
@@ -13,10 +13,7 @@ returns-in-Ok-clause-ok g c =
     event-does c.args.line.now c.args.self.now c.play_whole.new.world c.new-lines.result.items c.play_whole.new.lines.items c.from_vec.result held left c.new-lines.ensures.items c.from_vec.ensures c.in-Ok.ensures.ok
 
 pub returns-in-Ok-clause-stands : goal.returns-in-Ok-clause-stands
-returns-in-Ok-clause-stands g c finds =
-    let held = both (g.D.SharedDisk.seen c.args.disk.now) (g.J.SharedDisk.seen c.args.journal.now) in
-    let left = both (g.D.SharedDisk.seen c.play_whole.new.disk) (g.J.SharedDisk.seen c.play_whole.new.journal) in
-    still-stands c.args.line.now (parts_of c.args.self.now) (parts_of c.play_whole.new.world) c.new-lines.result.items c.play_whole.new.lines.items held left c.requires.state finds c.in-Ok.ensures.ok
+returns-in-Ok-clause-stands g c = c.in-Ok.ensures.stands
 
 pub returns-in-Err-clause-broken : goal.returns-in-Err-clause-broken
 returns-in-Err-clause-broken g c =
