@@ -1,9 +1,10 @@
 //! The large run: its script, made turn by turn, played by two servers; and its writes and syncs alone.
-use crate::disk::Disk;
+use crate::disk::{Deed, Disk};
 use crate::service::{begin_streams, record_of};
 use crate::world::World;
 use std::fmt::Write;
 use std::io;
+use std::rc::Rc;
 
 const OPENING: &str = "cluster start=1704067200000000000 queue=2 callbacks=256";
 const START_SECOND: u64 = 1_704_067_200;
@@ -54,6 +55,28 @@ pub fn writes(count: u64) -> io::Result<()> {
     let mut stamp = START_SECOND + 2;
     for turn in 1..=count {
         let stream = if turn % 10 == 0 { &mut alarm } else { &mut system };
+        disk.perform(&stream.store(&mut stamp, START_SECOND, record.clone()))?;
+    }
+    Ok(())
+}
+
+/// Makes the writes and syncs by which so many entries join a journal and their records are stored, with frames and records that are all
+/// the same.
+pub fn joins(count: u64) -> io::Result<()> {
+    let mut disk = Disk::default();
+    let (mut alarm, mut system, deeds) = begin_streams(START_SECOND);
+    disk.perform(&deeds)?;
+    let (name, record): (Rc<str>, _) = ("journal.dat".into(), record_of("a record"));
+    let (closed, open, frame): (Rc<[u8]>, Rc<[u8]>, Rc<[u8]>) = ([0].into(), [1].into(), vec![0; 120].into());
+    let durable = |at: u64, bytes: &Rc<[u8]>| [Deed::Write { name: name.clone(), at, bytes: bytes.clone() }, Deed::Sync { name: name.clone() }];
+    disk.perform(&[Deed::Create { name: name.clone() }])?;
+    disk.perform(&durable(0, &closed))?;
+    let (mut end, mut stamp) = (0, START_SECOND + 2);
+    for turn in 1..=count {
+        disk.perform(&durable(end + 1, &frame))?;
+        disk.perform(&durable(end, &open))?;
+        end += frame.len() as u64;
+        let stream = if turn % 2 == 0 { &mut alarm } else { &mut system };
         disk.perform(&stream.store(&mut stamp, START_SECOND, record.clone()))?;
     }
     Ok(())

@@ -2,8 +2,9 @@
 //! against. It prints the same bytes and leaves the same files, keeps the net as spelled messages with an index, and the history, and
 //! keeps files open. It takes only the lines that these scripts have, and stops at any other.
 //!
-//! Words: none plays the script of the standard input by two servers, `trio` by three; `load COUNT SEED` the script of a large run, and prints one line; `writes COUNT`
-//! makes the writes and syncs of that run and nothing else.
+//! Words: none plays the script of the standard input by two servers, `trio` by three; `load COUNT SEED` the script of a large run, and
+//! prints one line; `writes COUNT` makes the writes and syncs of that run and nothing else, and `joins COUNT` those of so many entries that
+//! join a journal first.
 mod disk;
 mod lines;
 mod load;
@@ -38,6 +39,7 @@ fn main() -> io::Result<()> {
             Ok(())
         }
         ["writes", count] => load::writes(lines::number(count)),
-        _ => panic!("words: none, trio, load COUNT SEED, or writes COUNT"),
+        ["joins", count] => load::joins(lines::number(count)),
+        _ => panic!("words: none, trio, load COUNT SEED, writes COUNT, or joins COUNT"),
     }
 }
