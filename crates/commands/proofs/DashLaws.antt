@@ -77,7 +77,14 @@ nothing-then None f none = refl
 nothing-then (Some x) f none = none x
 
 no-lone : (word : List ℕ) → is_dashed word ≡ true → lone_command word ≡ None
-no-lone word dashed = rw (other-word word (codes "run") dashed refl, other-word word (codes "check") dashed refl, other-word word (codes "trio") dashed refl) refl
+no-lone word dashed =
+    rw (
+      other-word word (codes "run") dashed refl,
+      other-word word (codes "check") dashed refl,
+      other-word word (codes "cold") dashed refl,
+      other-word word (codes "recover") dashed refl,
+      other-word word (codes "trio") dashed refl,
+    ) refl
 
 no-expr : (word name text : List ℕ) → AnyDashed (word ∷ name ∷ text ∷ []) → expr_command word name text ≡ None
 no-expr word name text (inl dashed) =

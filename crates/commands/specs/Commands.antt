@@ -11,7 +11,7 @@ use Rattle.command_line.specs.Lines.{is_dashed}
 use Rattle.scan_lines.specs.declared.shown.Shown.{Shown}
 use Rattle.scan_lines.specs.declared.shown.Shown.TheVariants as shown
 use Rattle.commands.specs.declared.command.Command.{Command}
-use Rattle.commands.specs.declared.command.Command.TheVariants.{Run, Check, Trio, Expr, Gen, Load, Scan}
+use Rattle.commands.specs.declared.command.Command.TheVariants.{Run, Check, Cold, Recover, Trio, Expr, Gen, Load, Scan}
 
 -- the bytes of each word
 abbrev pub word_bytes : {Z : Type 0} → List (String Z) → List (List ℕ)
@@ -35,6 +35,8 @@ abbrev pub lone_command : List ℕ → Option Command
 lone_command word =
     if is_word word (codes "run") then Some Run
     else if is_word word (codes "check") then Some Check
+    else if is_word word (codes "cold") then Some Cold
+    else if is_word word (codes "recover") then Some Recover
     else if is_word word (codes "trio") then Some Trio
     else None
 

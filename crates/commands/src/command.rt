@@ -29,6 +29,10 @@ pub enum Command {
     Run,
     /// Tell whether the source gives a script, and of how many lines.
     Check,
+    /// Run the script that the source gives on one server and its journal.
+    Cold,
+    /// Start a server from the journal that stands, and tell how long its history is and which files there are.
+    Recover,
     /// Run the script for three servers that the source gives.
     Trio,
     /// Tell whether the third word is a format expression for streams of a kind, and of how many pieces.
@@ -48,6 +52,8 @@ fn lone_command(word: &str) -> Option<Command>
     match word {
         "run" => Some(Command::Run),
         "check" => Some(Command::Check),
+        "cold" => Some(Command::Cold),
+        "recover" => Some(Command::Recover),
         "trio" => Some(Command::Trio),
         _ => None,
     }
