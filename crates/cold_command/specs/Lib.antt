@@ -1,0 +1,3 @@
+pub mod Endings
+pub mod Completing
+pub mod Steps
