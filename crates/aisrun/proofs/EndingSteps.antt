@@ -13,7 +13,7 @@ use Rattle.played_runs.proofs.CountSteps.{untouched-on, untouched-stood}
 use Rattle.aisrun.specs.Edges.{Around}
 use Rattle.cluster_core.specs.Game.{world_game}
 use Rattle.commands.specs.declared.command.Command.{Command}
-use Rattle.commands.specs.declared.command.Command.TheVariants.{Run, Check, Trio, Expr, Gen, Load, Scan}
+use Rattle.commands.specs.declared.command.Command.TheVariants.{Run, Check, Cold, Recover, Trio, Expr, Gen, Load, Scan}
 use Rattle.commands.specs.Commands.{command_of, text_of}
 use Rattle.text_commands.specs.Checking.{CheckEnds, ExprEnds, IsExpression, IsNoExpression}
 use Rattle.script_inputs.specs.Inputs.{ReadsWhole}
@@ -89,12 +89,14 @@ module _ {S K D : Type 0} (run : Around S K D) where
       subst E (sym status) (record { unknown = unknown; all = all; source = source; printed = text }, (untouched-stood run.source source, untouched-stood run.stage.disk all.disk))
 
 -- memory was wanting before anything was done
-pub lacks-early : {S K D : Type 0} (run : Around S K D) (asked : Option Command) → (asked ≡ Some Trio → ⊥) → LeavesAll run.stage → IsUntouched run.source → LacksBy asked run []
-lacks-early run None other all source = (refl, all, source)
-lacks-early run (Some Run) other all source = Unknown refl all
-lacks-early run (Some Check) other all source = (refl, all)
-lacks-early run (Some Trio) other all source = absurd (other refl)
-lacks-early run (Some (Expr kind)) other all source = (refl, all, source)
-lacks-early run (Some (Gen count seed)) other all source = (refl, all, source)
-lacks-early run (Some (Load count seed)) other all source = Unbegun refl all source
-lacks-early run (Some (Scan query)) other all source = Unjudged refl all source
+pub lacks-early : {S K D : Type 0} (run : Around S K D) (asked : Option Command) → (asked ≡ Some Trio → ⊥) → (asked ≡ Some Cold → ⊥) → (asked ≡ Some Recover → ⊥) → LeavesAll run.stage → IsUntouched run.source → LacksBy asked run []
+lacks-early run None trio cold recover all source = (refl, all, source)
+lacks-early run (Some Run) trio cold recover all source = Unknown refl all
+lacks-early run (Some Check) trio cold recover all source = (refl, all)
+lacks-early run (Some Cold) trio cold recover all source = absurd (cold refl)
+lacks-early run (Some Recover) trio cold recover all source = absurd (recover refl)
+lacks-early run (Some Trio) trio cold recover all source = absurd (trio refl)
+lacks-early run (Some (Expr kind)) trio cold recover all source = (refl, all, source)
+lacks-early run (Some (Gen count seed)) trio cold recover all source = (refl, all, source)
+lacks-early run (Some (Load count seed)) trio cold recover all source = Unbegun refl all source
+lacks-early run (Some (Scan query)) trio cold recover all source = Unjudged refl all source

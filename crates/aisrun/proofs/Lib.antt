@@ -5,4 +5,6 @@ mod StatusLaws
 mod CompletenessLaws
 mod GeneratingLaws
 mod LoadCompleteness
-mod TrioEndings
+mod Asking
+mod EarlyEnds
+mod WordEndings

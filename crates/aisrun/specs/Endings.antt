@@ -17,7 +17,7 @@ use Rattle.script_inputs.specs.Inputs.{InputTooLong, ReadsWhole, SourceFailed}
 use Rattle.aisrun.specs.Edges.{Around}
 use Rattle.cluster_core.specs.Runs.{DiskFails, PlayEnds, PlayLacks, PlayedTo}
 use Rattle.commands.specs.declared.command.Command.{Command}
-use Rattle.commands.specs.declared.command.Command.TheVariants.{Run, Check, Trio, Expr, Gen, Load, Scan}
+use Rattle.commands.specs.declared.command.Command.TheVariants.{Run, Check, Cold, Recover, Trio, Expr, Gen, Load, Scan}
 use Rattle.commands.specs.Commands.{command_of, text_of as word_text}
 use Rattle.load_runs.specs.Loading.{counting_faults}
 use Rattle.world_runs.specs.Loads.{CountedBehind, LoadFails, TellsLoad}
@@ -162,11 +162,14 @@ pub data RecordsLack {S K D : Type 0} (run : Around S K D) (text : List ℕ) : T
   Unheld : CanScan run.words → text ≡ [] → LeavesAll run.stage → RecordsLack run text
   Untold : ScansOn run text → RecordsLack run text
 
--- the same of each command; `expr`, `gen`, `load` and words that are no command leave the source as it is; `trio` has clauses of its own
+-- the same of each command; `expr`, `gen`, `load` and words that are no command leave the source as it is; `cold`, `recover` and `trio` have
+-- clauses of their own
 abbrev pub LacksBy : {S K D : Type 0} → Option Command → Around S K D → List ℕ → Type 0
 LacksBy None run text = (text ≡ []) × LeavesAll run.stage × IsUntouched run.source
 LacksBy (Some Run) run text = RunLacks run text
 LacksBy (Some Check) run text = (text ≡ []) × LeavesAll run.stage
+LacksBy (Some Cold) run text = ⊥
+LacksBy (Some Recover) run text = ⊥
 LacksBy (Some Trio) run text = ⊥
 LacksBy (Some (Expr kind)) run text = (text ≡ []) × LeavesAll run.stage × IsUntouched run.source
 LacksBy (Some (Gen count seed)) run text = (text ≡ []) × LeavesAll run.stage × IsUntouched run.source

@@ -1,3 +1,4 @@
+pub mod Colds
 pub mod Completing
 pub mod Edges
 pub mod Endings

@@ -8,10 +8,6 @@ use Rattle.trio_command.specs.Completing.{CanServe}
 abbrev pub AsksTrio : List (List ℕ) → Type 0
 AsksTrio words = command_of words ≡ Some Trio
 
--- those of another command, or of none
-abbrev pub AsksOther : List (List ℕ) → Type 0
-AsksOther words = ¬ AsksTrio words
-
 -- they ask for it over a source that has a script for three servers to give, and a disk without files
 abbrev pub CanServeBy : List (List ℕ) → Option (List ℕ) → Option Files → Type 0
 CanServeBy words left held = AsksTrio words × CanServe left held

@@ -7,7 +7,7 @@ use std::alloc::{AllocError, Global};
 
 /// What is printed where the words are none of the program's.
 const USAGE: &[u8] =
-    b"usage: aisrun run, check, expr KIND TEXT, gen COUNT SEED, load COUNT SEED, scan KIND TEXT SIZE, find KIND TEXT SIZE TOKEN WORD or trio\n";
+    b"usage: aisrun run, check, expr KIND TEXT, gen COUNT SEED, load COUNT SEED, cold, recover, scan KIND TEXT SIZE, find KIND TEXT SIZE TOKEN WORD or trio\n";
 
 /// The end where the words are none of the program's.
 #[tactic(auto, unfolding(crate::specs::Usage::usage_line))]

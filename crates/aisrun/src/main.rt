@@ -1,6 +1,6 @@
 //! The Log Service and the Notification Service of a high-availability cluster, driven by a script.
 //!
-//! `main` makes the real source, sink and disk and calls `run`, which does all the rest.
+//! `main` makes the real source, sink and disks and calls `run`, which does all the rest.
 #![tactic(auto)]
 
 mod ending;
@@ -8,6 +8,7 @@ mod run;
 
 use callback_dispatch::OpenGate;
 use cluster_core::World;
+use command_journal::ColdWorld;
 use disk_model::{DirDisk, Root};
 use io_edge::{StdSink, StdSource};
 pub use played_runs::Status8;
@@ -36,15 +37,20 @@ fn main(rt: HostRuntime) -> ExitCode {
         Ok(words) => words,
         Err(_) => return ExitCode::from(Status8::Memory.code()),
     };
-    // The disk has a runtime of its own.
+    // Each disk has a runtime of its own.
     let Ok(files) = rt.clone() else {
+        return ExitCode::from(Status8::Memory.code());
+    };
+    let Ok(frames) = rt.clone() else {
         return ExitCode::from(Status8::Memory.code());
     };
     let alloc = rt.alloc();
     let mut source = StdSource::new(rt.stdin());
     let mut out = StdSink::new(rt.stdout());
     let mut disk = DirDisk::new(files, Root::Logs);
+    let mut journal = DirDisk::new(frames, Root::Journal);
     let mut world = World::empty(alloc);
+    let mut cold = ColdWorld::empty(alloc);
     let mut trio = TrioWorld::empty(alloc);
     let status = run(
         &rt,
@@ -53,11 +59,14 @@ fn main(rt: HostRuntime) -> ExitCode {
         &mut source,
         &mut out,
         &mut disk,
+        &mut journal,
         &OpenGate,
         &mut world,
+        &mut cold,
         &mut trio,
     );
     world.end();
+    cold.end();
     trio.end();
     ExitCode::from(status.code())
 }

@@ -1,5 +1,5 @@
-//! The top call: the words, a source, a sink, a disk and the worlds, and the status that the run ends with.
-ghost use Rattle.std.specs.Prelude.{◌≡◌, None, Some};
+//! The top call: the words, a source, a sink, the disks and the worlds, and the status that the run ends with.
+ghost use Rattle.std.specs.Prelude.{◌≡◌, None, Some, IsSome};
 ghost use Rattle.played_runs.specs.Counts.{HasRisen, NoneRises, RisesBy};
 ghost use Rattle.played_runs.specs.Edges.{edge};
 ghost use Rattle.played_runs.specs.Promises.{CallsBack, CommitsInTime, KeepsFiles, KeepsOneHistory, KeepsRecords};
@@ -14,9 +14,16 @@ ghost use Rattle.commands.specs.Commands.{command_of, word_bytes};
 ghost use Rattle.aisrun.specs.Completing.{CanCheck, CanGenerate, CanLoad, CanParse, CanRun, HoldsRecords, IsDoneOrMemory};
 ghost use Rattle.played_runs.specs.declared.ending.Status8.{Status8};
 ghost use Rattle.aisrun.specs.Endings.{EndsBy};
-ghost use Rattle.aisrun.specs.RunSteps.{WordsEnd};
-ghost use Rattle.aisrun.specs.Trios.{AsksOther, AsksTrio, CanServeBy};
+ghost use Rattle.aisrun.specs.Colds.{AsksApart, AsksCold, AsksJournal, AsksOther, AsksRecover};
+ghost use Rattle.aisrun.specs.RunSteps.{WordsEnd, beside};
+ghost use Rattle.aisrun.specs.Trios.{AsksTrio, CanServeBy};
 ghost use Rattle.cluster_core.specs.Worlds.{empty_world};
+ghost use Rattle.command_journal.specs.Worlds.{both, empty_cold};
+ghost use Rattle.cold_runs.specs.Promises.{DeclinesCold, FallsCold, FindsAll, JournalStands, KeepsRecordsCold, OfAllColdLines, OfLine, OfWorld, SettlesCold, ThroughoutCold};
+ghost use Rattle.cold_runs.specs.Recovering.{RecoversBy};
+ghost use Rattle.cold_runs.specs.Stages.{cold_stage};
+ghost use Rattle.cold_command.specs.Completing.{Completes as CompletesCold};
+ghost use Rattle.cold_command.specs.Endings.{ColdEndsBy, RisesBy as RisesByCold, cold_run};
 ghost use Rattle.spare_server.specs.Game.{trio_game};
 ghost use Rattle.spare_server.specs.Worlds.{empty_trio};
 ghost use Rattle.trio_command.specs.Completing.{IsServedOrMemory};
@@ -28,6 +35,9 @@ ghost use Rattle.trio_runs.specs.Sentences.{DeclinesRightly as DeclinesTrio, OfA
 use crate::ending::usage;
 use callback_dispatch::Gate;
 use cluster_core::World;
+use cold_command::run_cold;
+use cold_runs::{law_of_cold_runs, recover};
+use command_journal::ColdWorld;
 use commands::{Command, command_of, text_of, wanted_of};
 use disk_model::SharedDisk;
 use io_edge::{Sink, Source};
@@ -42,7 +52,7 @@ use trio_runs::law_of_trio_runs;
 use world_runs::{law_of_runs, load, run_script};
 
 // The command that the words are is done.
-fn run_command<R: Threads + Wait + Sync, S: Source, K: Sink, D: SharedDisk, G: Gate>(
+fn run_command<R: Threads + Wait + Sync, S: Source, K: Sink, D: SharedDisk, J: SharedDisk, G: Gate>(
     rt: &R,
     alloc: Global,
     command: Command,
@@ -50,21 +60,28 @@ fn run_command<R: Threads + Wait + Sync, S: Source, K: Sink, D: SharedDisk, G: G
     source: &mut S,
     out: &mut K,
     disk: &mut D,
+    journal: &mut J,
     gate: &G,
     world: &mut World,
+    cold: &mut ColdWorld,
     trio: &mut TrioWorld,
 ) -> Status8
     requires asked { Some command ≡ command_of (word_bytes words.now) }
     requires empty { world.old ≡ empty_world }
+    requires cold_empty { cold.old ≡ empty_cold }
     requires trio_empty { trio.old ≡ empty_trio }
     requires unarmed { (D.seen disk.old).tally.armed ≡ None }
+    requires journal_unarmed { (J.seen journal.old).tally.armed ≡ None }
     ensures { WordsEnd result (around (word_bytes words.now)
         (edge S.left S.faults source.old source.new) (edge K.written K.faults out.old out.new)
-        D.seen disk.old disk.new world.old world.new) trio.old trio.new }
+        D.seen disk.old disk.new world.old world.new)
+        (beside trio.old trio.new J.seen journal.old journal.new cold.old cold.new) }
 {
     match command {
         Command::Run => run_script(rt, alloc, source, out, disk, gate, world),
         Command::Check => run_check(alloc, source, out),
+        Command::Cold => run_cold(rt, alloc, source, out, disk, journal, gate, cold),
+        Command::Recover => recover(alloc, out, disk, journal),
         Command::Trio => run_trio(rt, alloc, source, out, disk, gate, trio),
         Command::Expr { kind } => write_end(out, check_text(alloc, kind, text_of(words))),
         Command::Gen { count, seed } => generate(alloc, count, seed, out),
@@ -76,34 +93,39 @@ fn run_command<R: Threads + Wait + Sync, S: Source, K: Sink, D: SharedDisk, G: G
 }
 
 // The words are read, and what they ask for is done.
-fn run_words<R: Threads + Wait + Sync, S: Source, K: Sink, D: SharedDisk, G: Gate>(
+fn run_words<R: Threads + Wait + Sync, S: Source, K: Sink, D: SharedDisk, J: SharedDisk, G: Gate>(
     rt: &R,
     alloc: Global,
     words: &[String],
     source: &mut S,
     out: &mut K,
     disk: &mut D,
+    journal: &mut J,
     gate: &G,
     world: &mut World,
+    cold: &mut ColdWorld,
     trio: &mut TrioWorld,
 ) -> Status8
     requires empty { world.old ≡ empty_world }
+    requires cold_empty { cold.old ≡ empty_cold }
     requires trio_empty { trio.old ≡ empty_trio }
     requires unarmed { (D.seen disk.old).tally.armed ≡ None }
+    requires journal_unarmed { (J.seen journal.old).tally.armed ≡ None }
     ensures { WordsEnd result (around (word_bytes words.now)
         (edge S.left S.faults source.old source.new) (edge K.written K.faults out.old out.new)
-        D.seen disk.old disk.new world.old world.new) trio.old trio.new }
+        D.seen disk.old disk.new world.old world.new)
+        (beside trio.old trio.new J.seen journal.old journal.new cold.old cold.new) }
 {
     match command_of(alloc, words) {
         Ok(Some(command)) => run_command(
-            rt, alloc, command, words, source, out, disk, gate, world, trio,
+            rt, alloc, command, words, source, out, disk, journal, gate, world, cold, trio,
         ),
         Ok(None) => write_end(out, usage(alloc)),
         Err(_) => Status8::Memory,
     }
 }
 
-/// Does what the words ask for, over a source, a sink, a disk and two empty worlds, and tells the status that the run ends with.
+/// Does what the words ask for, over a source, a sink, two disks and three empty worlds, and tells the status that the run ends with.
 ///
 /// The words `run` read the source to its end as a script and play it over the disk: its first line begins a cluster, and the
 /// others are its events, whose lines are written as each event ends; the workers of a dispatch pass the gate. The words
@@ -117,9 +139,17 @@ fn run_words<R: Threads + Wait + Sync, S: Source, K: Sink, D: SharedDisk, G: Gat
 /// (`Inseparable`). SIZE is 0, for records that end with their first line feed, or 32 to 16,384; TOKEN is 1 to 1,024.
 ///
 /// The words `trio` do what `run` does with a script for three servers, on the world that comes last; the clauses that are named
-/// after them, and `serves`, say of it what the others say of `run`. It leaves the other world, and all other words leave its own.
+/// after them, and `serves`, say of it what the others say of `run`.
 ///
-/// The disk is not armed before.
+/// The words `cold` do so with a script for one server, whose journal is on the second disk, on the world beside; `recover` reads
+/// no source, starts a server from the journal that stands, and writes how many entries it found and which files the first disk
+/// has then (`recovers`). `JournalRefused` comes only where `recover`, or a line `restart a` of `cold`, found no journal or an open
+/// gate without its whole frame; of `cold` never where the journal's disk tells its files (`cold_accepts`). Behind each `restart a`
+/// that was not refused the history is what the journal held (`cold_finds`), and while the server is up with nothing in hand, the
+/// files and the journal are those of the history (`cold_stands`); the other clauses of that name say of its lines what those
+/// above say of two servers.
+///
+/// Each of these leaves the worlds of the others, and all other words leave the second disk too. No disk is armed before.
 ///
 /// The clause `ends` says of each status what was read, what is written and what stands. Every count of faults stands but as
 /// the status says: `WriteFault` comes exactly where the sink's rose, whatever was to come; the source's rises by `ReadFault`,
@@ -147,20 +177,24 @@ fn run_words<R: Threads + Wait + Sync, S: Source, K: Sink, D: SharedDisk, G: Gat
 /// the fault; the last entry, whose work failed, has no reply, but behind a `crash`; and what was answered as stored before
 /// it stands, unless the entry gives its place away. Where the fault came in a line that shows files, all stands as at the
 /// end of the line before. Where memory ran out in an event, what clients were fed up to there tells the same of the sends.
-pub fn run<R: Threads + Wait + Sync, S: Source, K: Sink, D: SharedDisk, G: Gate>(
+pub fn run<R: Threads + Wait + Sync, S: Source, K: Sink, D: SharedDisk, J: SharedDisk, G: Gate>(
     rt: &R,
     alloc: Global,
     words: &[String],
     source: &mut S,
     out: &mut K,
     disk: &mut D,
+    journal: &mut J,
     gate: &G,
     world: &mut World,
+    cold: &mut ColdWorld,
     trio: &mut TrioWorld,
 ) -> Status8
     requires empty { world.old ≡ empty_world }
+    requires cold_empty { cold.old ≡ empty_cold }
     requires trio_empty { trio.old ≡ empty_trio }
     requires unarmed { (D.seen disk.old).tally.armed ≡ None }
+    requires journal_unarmed { (J.seen journal.old).tally.armed ≡ None }
 
     // How the run ends, by its status.
     ensures ends { AsksOther (word_bytes words.now) → EndsBy result (around (word_bytes words.now)
@@ -169,14 +203,27 @@ pub fn run<R: Threads + Wait + Sync, S: Source, K: Sink, D: SharedDisk, G: Gate>
     ensures trio_ends { AsksTrio (word_bytes words.now) → TrioEndsBy result (trio_run
         (edge S.left S.faults source.old source.new) (edge K.written K.faults out.old out.new)
         D.seen disk.old disk.new trio.old trio.new) }
+    ensures cold_ends { AsksCold (word_bytes words.now) → ColdEndsBy result (cold_run
+        (edge S.left S.faults source.old source.new) (edge K.written K.faults out.old out.new)
+        D.seen disk.old disk.new J.seen journal.old journal.new cold.old cold.new) }
+    ensures recovers { AsksRecover (word_bytes words.now) → RecoversBy (cold_stage
+        (edge K.written K.faults out.old out.new) D.seen disk.old disk.new
+        J.seen journal.old journal.new cold.old cold.new) result }
 
-    // The other world stays.
-    ensures trio_stays { AsksOther (word_bytes words.now) → trio.new ≡ trio.old }
-    ensures world_stays { AsksTrio (word_bytes words.now) → world.new ≡ world.old }
+    // What was not asked for stays.
+    ensures world_stays { AsksApart (word_bytes words.now) → world.new ≡ world.old }
+    ensures trio_stays { ¬ AsksTrio (word_bytes words.now) → trio.new ≡ trio.old }
+    ensures cold_stays { ¬ AsksJournal (word_bytes words.now)
+        → (journal.new ≡ journal.old) × (cold.new ≡ cold.old) }
+    ensures source_stays { AsksRecover (word_bytes words.now) → source.new ≡ source.old }
 
     // Which counts of faults rose.
-    ensures faults { RisesBy result (S.faults source.old, S.faults source.new)
+    ensures faults { ¬ AsksJournal (word_bytes words.now)
+        → RisesBy result (S.faults source.old, S.faults source.new)
         (K.faults out.old, K.faults out.new) ((D.seen disk.old).faults, (D.seen disk.new).faults) }
+    ensures cold_faults { AsksCold (word_bytes words.now) → RisesByCold result (cold_run
+        (edge S.left S.faults source.old source.new) (edge K.written K.faults out.old out.new)
+        D.seen disk.old disk.new J.seen journal.old journal.new cold.old cold.new) }
 
     // What holds at the end of every line that was played.
     ensures one_history { Throughout (D.seen disk.old).files KeepsOneHistory }
@@ -213,6 +260,34 @@ pub fn run<R: Threads + Wait + Sync, S: Source, K: Sink, D: SharedDisk, G: Gate>
     ensures trio_stands_once { ThroughoutTrio (D.seen disk.old).files StandsOnce }
     ensures trio_settles { ThroughoutTrio (D.seen disk.old).files SettlesTrio }
 
+    // What holds at the end of every line that was played on one server and its journal.
+    ensures cold_one_history { ThroughoutCold (both (D.seen disk.old) (J.seen journal.old))
+        (OfWorld KeepsOneHistory) }
+    ensures cold_finds { OfAllColdLines (both (D.seen disk.old) (J.seen journal.old)) FindsAll }
+    ensures cold_falls { OfAllColdLines (both (D.seen disk.old) (J.seen journal.old)) FallsCold }
+    ensures cold_declines { OfAllColdLines (both (D.seen disk.old) (J.seen journal.old))
+        DeclinesCold }
+    ensures cold_in_time { OfAllColdLines (both (D.seen disk.old) (J.seen journal.old))
+        (OfLine CommitsInTime) }
+    ensures cold_replies { ThroughoutCold (both (D.seen disk.old) (J.seen journal.old))
+        (OfWorld RepliesRightly) }
+    ensures cold_readers { ThroughoutCold (both (D.seen disk.old) (J.seen journal.old))
+        (OfWorld ReadsRightly) }
+    ensures cold_callbacks { ThroughoutCold (both (D.seen disk.old) (J.seen journal.old))
+        (OfWorld CallsBack) }
+    ensures cold_tells_once { ThroughoutCold (both (D.seen disk.old) (J.seen journal.old))
+        (OfWorld TellsOnce) }
+    ensures cold_posts { ThroughoutCold (both (D.seen disk.old) (J.seen journal.old))
+        (OfWorld PrintsPosts) }
+    ensures cold_stands_once { ThroughoutCold (both (D.seen disk.old) (J.seen journal.old))
+        (OfWorld StandsOnce) }
+    ensures cold_records { ThroughoutCold (both (D.seen disk.old) (J.seen journal.old))
+        KeepsRecordsCold }
+    ensures cold_stands { ThroughoutCold (both (D.seen disk.old) (J.seen journal.old))
+        JournalStands }
+    ensures cold_settles { ThroughoutCold (both (D.seen disk.old) (J.seen journal.old))
+        SettlesCold }
+
     // What holds where a fault of the disk ended the run in an event.
     ensures fault_keeps { KeepsAtFault (D.seen disk.old).files
         (D.seen disk.new) world.new }
@@ -233,6 +308,11 @@ pub fn run<R: Threads + Wait + Sync, S: Source, K: Sink, D: SharedDisk, G: Gate>
     ensures serves { CanServeBy (word_bytes words.now) (S.left source.old) (D.seen disk.old).files
         → NoneRises (S.faults source.old, S.faults source.new) (K.faults out.old, K.faults out.new)
         ((D.seen disk.old).faults, (D.seen disk.new).faults) → IsServedOrMemory result }
+    ensures cold_completes { AsksCold (word_bytes words.now) → CompletesCold result (cold_run
+        (edge S.left S.faults source.old source.new) (edge K.written K.faults out.old out.new)
+        D.seen disk.old disk.new J.seen journal.old journal.new cold.old cold.new) }
+    ensures cold_accepts { AsksCold (word_bytes words.now) → IsSome (J.seen journal.old).files
+        → result ≡ Status8.JournalRefused → ⊥ }
     ensures checks { CanCheck (word_bytes words.now) (S.left source.old)
         → ¬ HasRisen (S.faults source.old, S.faults source.new)
         → ¬ HasRisen (K.faults out.old, K.faults out.new) → IsDoneOrMemory result }
@@ -249,5 +329,8 @@ pub fn run<R: Threads + Wait + Sync, S: Source, K: Sink, D: SharedDisk, G: Gate>
 {
     law_of_runs();
     law_of_trio_runs();
-    run_words(rt, alloc, words, source, out, disk, gate, world, trio)
+    law_of_cold_runs();
+    run_words(
+        rt, alloc, words, source, out, disk, journal, gate, world, cold, trio,
+    )
 }

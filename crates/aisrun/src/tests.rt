@@ -1,4 +1,5 @@
 //! Whole runs over objects in memory: what they print, and the calls outside failing in turn.
+mod colds;
 mod failing_calls;
 mod failing_servers;
 mod gates;
@@ -10,6 +11,7 @@ use crate::{Status8, run};
 use ais_values::Duplicate;
 use callback_dispatch::OpenGate;
 use cluster_core::World;
+use command_journal::ColdWorld;
 use disk_model::{MemDisk, SharedDisk};
 use failing_servers::FAILING;
 use io_edge::{MemSink, MemSource, Sink, SinkAnswer};
@@ -27,7 +29,7 @@ const WRITE: &str =
     "log 1 init A.2.1\nlog 1 open system\nlog 1 write system inv=0 flags=0 gen sev=6 class=0.0.0 user=\"u\" body=\"a\"\nsettle\n";
 
 const USAGE: &str =
-    "usage: aisrun run, check, expr KIND TEXT, gen COUNT SEED, load COUNT SEED, scan KIND TEXT SIZE, find KIND TEXT SIZE TOKEN WORD or trio\n";
+    "usage: aisrun run, check, expr KIND TEXT, gen COUNT SEED, load COUNT SEED, cold, recover, scan KIND TEXT SIZE, find KIND TEXT SIZE TOKEN WORD or trio\n";
 
 /// Words that are none of the program's, one row a line.
 const OTHER_WORDS: &str = "\
@@ -45,6 +47,8 @@ const OTHER_WORDS: &str = "\
     expr,System,a\n\
     expr,system\n\
     check,check\n\
+    cold,cold\n\
+    recover,a\n\
     trio,trio\n\
     expr,alarm,a,b\n\
     gen\n\
@@ -131,7 +135,7 @@ const SCANS: &str = "\
 /// One digit each for the failing call of the source, of the sink and of the disk's reading ones, whether there is a file, and the
 /// exit status; then the word and the text, one row a line. The disk's first changing call fails.
 const REASONS: &str = "\
-    10002|run,run|usage: aisrun run, check, expr KIND TEXT, gen COUNT SEED, load COUNT SEED, scan KIND TEXT SIZE, find KIND TEXT SIZE TOKEN WORD or trio\n;\
+    10002|run,run|usage: aisrun run, check, expr KIND TEXT, gen COUNT SEED, load COUNT SEED, cold, recover, scan KIND TEXT SIZE, find KIND TEXT SIZE TOKEN WORD or trio\n;\
     10014|run|read fault\n;\
     00017|run|root not empty: x\n;\
     00006|run|disk fault\n;\
@@ -218,7 +222,7 @@ fn parted(rt: &impl Abort, alloc: Global, words: &str) -> Vec<String> {
     list
 }
 
-/// The words are run over an empty world.
+/// The words are run over empty worlds and an empty journal.
 fn play<R: Abort + Threads + Wait + Sync, D: SharedDisk>(
     rt: &R,
     alloc: Global,
@@ -227,11 +231,29 @@ fn play<R: Abort + Threads + Wait + Sync, D: SharedDisk>(
     disk: &mut D,
     words: &str,
 ) -> u8 {
+    let mut journal = MemDisk::new(alloc, Vec::new(alloc), Vec::new(alloc), Vec::new(alloc));
+    let status = play_both(rt, alloc, source, out, disk, &mut journal, words);
+    drop(journal);
+    status
+}
+
+/// The words are run over empty worlds.
+fn play_both<R: Abort + Threads + Wait + Sync, D: SharedDisk, J: SharedDisk>(
+    rt: &R,
+    alloc: Global,
+    source: &mut MemSource,
+    out: &mut Narrow,
+    disk: &mut D,
+    journal: &mut J,
+    words: &str,
+) -> u8 {
     let list = parted(rt, alloc, words);
     let mut world = World::empty(alloc);
+    let mut cold = ColdWorld::empty(alloc);
     let mut trio = TrioWorld::empty(alloc);
-    // A run begins on a disk that is not armed.
+    // A run begins on disks that are not armed.
     disk.disarm();
+    journal.disarm();
     let status = run(
         rt,
         alloc,
@@ -239,11 +261,14 @@ fn play<R: Abort + Threads + Wait + Sync, D: SharedDisk>(
         source,
         out,
         disk,
+        journal,
         &OpenGate,
         &mut world,
+        &mut cold,
         &mut trio,
     );
     world.end();
+    cold.end();
     trio.end();
     drop(list);
     status.code()

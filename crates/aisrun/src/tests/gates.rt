@@ -3,6 +3,7 @@ use super::{Narrow, behind_cluster, parted};
 use crate::run;
 use callback_dispatch::Gate;
 use cluster_core::World;
+use command_journal::ColdWorld;
 use disk_model::{MemDisk, SharedDisk};
 use io_edge::{MemSink, MemSource};
 use spare_server::TrioWorld;
@@ -41,8 +42,10 @@ fn passing<R: Abort + Threads + Wait + Sync>(
     };
     let mut disk = MemDisk::new(alloc, Vec::new(alloc), Vec::new(alloc), Vec::new(alloc));
     disk.disarm();
+    let mut journal = MemDisk::new(alloc, Vec::new(alloc), Vec::new(alloc), Vec::new(alloc));
     let words = parted(rt, alloc, "run");
     let mut world = World::empty(alloc);
+    let mut cold = ColdWorld::empty(alloc);
     let mut trio = TrioWorld::empty(alloc);
     let gate = Noting {
         passed: AtomicU32::new(0),
@@ -54,11 +57,14 @@ fn passing<R: Abort + Threads + Wait + Sync>(
         &mut source,
         &mut out,
         &mut disk,
+        &mut journal,
         &gate,
         &mut world,
+        &mut cold,
         &mut trio,
     );
     world.end();
+    cold.end();
     trio.end();
     assert!(rt; status.code() == 0);
     gate.passed.load(SeqCst)
