@@ -32,8 +32,7 @@ use message_net::Net;
 use mirror::Role;
 use played_runs::Halt;
 use std::alloc::{AllocError, Global};
-use std::mem;
-use wire::Message;
+use wire::{Message, let_message_go, let_messages_go};
 
 /// Whether a message is a request.
 fn is_request(message: &Message) -> bool
@@ -63,7 +62,7 @@ fn is_fetched_request(fetched: Fetched) -> bool
     match fetched {
         Fetched::Whole { message } => {
             let is = is_request(&message);
-            mem::drop(message);
+            let_message_go(Some(message));
             is
         }
         Fetched::Bad { .. } => false,
@@ -110,7 +109,9 @@ fn requests_of_agent(alloc: Global, agent: &Agent) -> Result<u64, AllocError>
         agent.now ≡ seen_of client places shown → count ≡ requests_in (resent client shown)) }
 {
     let messages = agent.resend(alloc)?;
-    Ok(count_requests(messages.as_slice()) as u64)
+    let count = count_requests(messages.as_slice());
+    let_messages_go(messages);
+    Ok(count as u64)
 }
 
 /// How many requests all agents send again. More than a `u64` tells count as want of memory.
