@@ -73,7 +73,7 @@ fn read_run(alloc: Global, lines: &[Vec<u8>]) -> Result<Run, DrawError>
 fn picture_of(alloc: Global, lines: &[Vec<u8>], run: &Run) -> Result<Vec<u8>, AllocError>
     ensures { IfOk result (λ picture. Draws (map items_of lines.now) picture.items) }
 {
-    let frame = Frame::new(alloc, &run.clients)?;
+    let frame = Frame::new(alloc, &run.clients, run.third)?;
     let mut picture = head_of(alloc, run, &frame)?;
     for (index, line) in lines.iter().enumerate() {
         let front = front_of(alloc, run, &frame, index)?;

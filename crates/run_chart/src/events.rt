@@ -57,6 +57,7 @@ pub(crate) enum Role {
     Armed,
     Standby,
     Joining,
+    Journal,
     Down,
 }
 
@@ -69,6 +70,7 @@ impl Role {
             Role::Armed => "armed",
             Role::Standby => "standby",
             Role::Joining => "joining",
+            Role::Journal => "journal",
             Role::Down => "down",
         }
     }
@@ -82,11 +84,12 @@ impl Role {
     }
 }
 
-/// A server of the pair.
+/// A server, of two or of three.
 #[derive(Clone, Copy)]
 pub(crate) enum Server {
     First,
     Second,
+    Third,
 }
 
 /// What a line tells.
@@ -106,8 +109,8 @@ pub(crate) enum Event {
     CalledBack { client: u64 },
     /// A delivered message had no effect.
     Ignored { number: u64 },
-    /// A line of the script is refused.
-    Refused,
+    /// A line of the script is refused; whether the roles of three servers are told with it.
+    Refused { third: bool },
     /// A server's role, where it changes or as it stands.
     Stands { server: Server, role: Role },
     /// A file, or a line of one.

@@ -30,8 +30,14 @@ const NET: u64 = 78;
 
 const FIRST_BAR: u64 = NET + 124;
 
-const SECOND_BAR: u64 = FIRST_BAR + 30;
+// How far the bars are apart.
+const NEXT_BAR: u64 = 30;
 
+const SECOND_BAR: u64 = FIRST_BAR + NEXT_BAR;
+
+const THIRD_BAR: u64 = SECOND_BAR + NEXT_BAR;
+
+// Behind the bars of two servers.
 const HISTORY: u64 = SECOND_BAR + BAR + 34;
 
 // The width of what stands behind the history's line.
@@ -41,13 +47,19 @@ const LABELS: u64 = 362;
 #[derive(Drop)]
 pub(crate) struct Frame {
     pub(crate) clients: Vec<u64>,
+    /// Whether there is a third server.
+    pub(crate) third: bool,
 }
 
 impl Frame {
-    /// The columns for these clients.
-    pub(crate) fn new(alloc: Global, clients: &BTreeSet<u64>) -> Result<Self, AllocError> {
+    /// The columns for these clients, and for two servers or three.
+    pub(crate) fn new(
+        alloc: Global,
+        clients: &BTreeSet<u64>,
+        third: bool,
+    ) -> Result<Self, AllocError> {
         let clients = clients.iter().copied().collect(alloc)?;
-        Ok(Frame { clients })
+        Ok(Frame { clients, third })
     }
 
     /// The line of the client at a place.
@@ -85,6 +97,7 @@ impl Frame {
         match server {
             Server::First => self.net() + FIRST_BAR,
             Server::Second => self.net() + SECOND_BAR,
+            Server::Third => self.net() + THIRD_BAR,
         }
     }
 
@@ -93,12 +106,17 @@ impl Frame {
         match server {
             Server::First => self.net() + (FIRST_BAR + BAR),
             Server::Second => self.net() + (SECOND_BAR + BAR),
+            Server::Third => self.net() + (THIRD_BAR + BAR),
         }
     }
 
     /// The line of the history.
     pub(crate) fn history(&self) -> u64 {
-        self.net() + HISTORY
+        if self.third {
+            self.net() + (HISTORY + NEXT_BAR)
+        } else {
+            self.net() + HISTORY
+        }
     }
 
     /// The width of a panel.
@@ -106,7 +124,11 @@ impl Frame {
         ensures above { 0 < result }
         ensures below { result < 2 ^ 21 }
     {
-        self.net() + (HISTORY + LABELS)
+        if self.third {
+            self.net() + (HISTORY + NEXT_BAR + LABELS)
+        } else {
+            self.net() + (HISTORY + LABELS)
+        }
     }
 
     /// How many panels stand side by side; further ones stand below them.

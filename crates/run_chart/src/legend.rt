@@ -34,8 +34,8 @@ path{fill:none;stroke-width:1.3}\
 .entry{fill:#333}.told{fill:#fff;stroke:#000;stroke-width:1.3}.callback{fill:#cc79a7;stroke:#000;stroke-width:.8}\
 .file{fill:#fff;stroke:#666}.refused{fill:#f0e442;stroke:#000;stroke-width:.8}\
 .net{fill:#f4f4f4}.paper{fill:#fff}\
-rect.active,rect.armed,rect.standby,rect.joining,rect.down,rect.untold{stroke:#333;stroke-width:.8}\
-.active{fill:#0072b2}.armed{fill:url(#armed)}.standby{fill:#b9def5}.joining{fill:url(#joining)}\
+rect.active,rect.armed,rect.standby,rect.joining,rect.journal,rect.down,rect.untold{stroke:#333;stroke-width:.8}\
+.active{fill:#0072b2}.armed{fill:url(#armed)}.standby{fill:#b9def5}.joining{fill:url(#joining)}.journal{fill:#e6dcc3}\
 .down{fill:url(#down)}.untold{fill:#fff;stroke-dasharray:2 2}\
 </style><defs>\
 <pattern id=\"armed\" width=\"6\" height=\"6\" patternUnits=\"userSpaceOnUse\" patternTransform=\"rotate(45)\">\
@@ -118,11 +118,12 @@ fn put_sample(pen: &mut Pen, kind: Kind, at: At, text: &[u8]) -> Result<(), Allo
 // The colours of roles.
 fn put_roles(pen: &mut Pen) -> Result<(), AllocError> {
     put_swatch(pen, Role::Active, 12, b"active")?;
-    put_swatch(pen, Role::Armed, 162, b"active and armed")?;
-    put_swatch(pen, Role::Standby, 312, b"standby")?;
-    put_swatch(pen, Role::Joining, 462, b"joining")?;
-    put_swatch(pen, Role::Down, 612, b"down")?;
-    put_swatch(pen, Role::Untold, 762, b"not told by any line yet")
+    put_swatch(pen, Role::Armed, 112, b"active and armed")?;
+    put_swatch(pen, Role::Standby, 272, b"standby")?;
+    put_swatch(pen, Role::Joining, 392, b"joining")?;
+    put_swatch(pen, Role::Journal, 512, b"journal")?;
+    put_swatch(pen, Role::Down, 632, b"down")?;
+    put_swatch(pen, Role::Untold, 742, b"not told by any line yet")
 }
 
 fn put_swatch(pen: &mut Pen, role: Role, x: u64, text: &[u8]) -> Result<(), AllocError> {

@@ -31,6 +31,9 @@ pub(crate) fn put_panel(
     put_names(pen, frame)?;
     put_bar(pen, frame, run, part, Server::First)?;
     put_bar(pen, frame, run, part, Server::Second)?;
+    if run.third {
+        put_bar(pen, frame, run, part, Server::Third)?;
+    }
     for message in &run.messages {
         put_lane(pen, frame, *message, part)?;
     }
@@ -91,6 +94,10 @@ fn put_names(pen: &mut Pen, frame: &Frame) -> Result<(), AllocError> {
         b"b",
         20,
     )?;
+    if frame.third {
+        let at = At(frame.server(Server::Third), y).right(7);
+        pen.label("name mid", at, b"c", 20)?;
+    }
     let at = At(frame.server(Server::First), y).left(6);
     pen.label("name end", at, b"server", 20)?;
     pen.label("name", At(frame.history(), y).left(8), b"history", 20)

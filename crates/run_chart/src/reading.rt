@@ -31,8 +31,8 @@ pub(crate) fn event_of(line: &[u8]) -> Option<Event> {
         b"disk" => failed(words),
         b"ignored" => ignored(words),
         b"refused" => {
-            refused_line(words.rest()?)?;
-            Some(Event::Refused)
+            let (_, third) = refused_line(words.rest()?)?;
+            Some(Event::Refused { third })
         }
         _ => None,
     }
@@ -280,17 +280,23 @@ fn role_of(word: &[u8]) -> Option<Role> {
         b"armed" => Some(Role::Armed),
         b"standby" => Some(Role::Standby),
         b"joining" => Some(Role::Joining),
+        b"journal" => Some(Role::Journal),
         b"down" => Some(Role::Down),
         _ => None,
     }
 }
 
+fn server_of(word: &[u8]) -> Option<Server> {
+    match word {
+        b"a" => Some(Server::First),
+        b"b" => Some(Server::Second),
+        b"c" => Some(Server::Third),
+        _ => None,
+    }
+}
+
 fn stands(mut words: Words) -> Option<Event> {
-    let server = match words.word()? {
-        b"a" => Server::First,
-        b"b" => Server::Second,
-        _ => return None,
-    };
+    let server = server_of(words.word()?)?;
     let role = role_of(words.word()?)?;
     at_end(words, Event::Stands { server, role })
 }
@@ -314,7 +320,7 @@ fn ignored(mut words: Words) -> Option<Event> {
                 return None;
             }
         }
-        b"old" | b"ahead" | b"done" | b"answered" | b"left" | b"taken" | b"gone" => {}
+        b"old" | b"ahead" | b"done" | b"answered" | b"left" | b"taken" | b"gone" | b"down" => {}
         _ => return None,
     }
     at_end(words, Event::Ignored { number })
@@ -328,8 +334,25 @@ fn is_fault(word: &[u8]) -> bool {
     }
 }
 
-/// Of a refused line the line of the script.
-pub(crate) fn refused_line(rest: &[u8]) -> Option<&[u8]> {
+/// Whether this is a line that a script for three servers has beside those of two.
+pub(crate) fn is_own_of_three(line: &[u8]) -> bool {
+    let mut words = Words::of(line);
+    let Some(word) = words.word() else {
+        return false;
+    };
+    let Some(server) = words.word() else {
+        return false;
+    };
+    match word {
+        b"crash" | b"restart" => server == b"c".as_slice() && words.is_at_end(),
+        b"arm" => server == b"c".as_slice() && words.count().is_some() && words.is_at_end(),
+        b"mirror" | b"ack" => server_of(server).is_some() && words.is_at_end(),
+        _ => false,
+    }
+}
+
+/// Of a refused line the line of the script, and whether the roles of three servers stand behind it.
+pub(crate) fn refused_line(rest: &[u8]) -> Option<(&[u8], bool)> {
     let (rest, hand) = last_field(rest, b"hand=")?;
     if hand != b"-".as_slice() {
         number_of(hand)?;
@@ -340,9 +363,16 @@ pub(crate) fn refused_line(rest: &[u8]) -> Option<&[u8]> {
     number_of(back)?;
     number_of(link)?;
     number_of(net)?;
+    let (rest, third) = match last_field(rest, b"c=") {
+        Some((front, role)) => {
+            role_of(role)?;
+            (front, true)
+        }
+        None => (rest, false),
+    };
     let (rest, second) = last_field(rest, b"b=")?;
     let (line, first) = last_field(rest, b"a=")?;
     role_of(second)?;
     role_of(first)?;
-    Some(line)
+    Some((line, third))
 }

@@ -48,7 +48,7 @@ pub(crate) fn put_row(
         Event::Told { client } => put_told(pen, &place, client, line),
         Event::CalledBack { client } => put_callback(pen, &place, client, line),
         Event::Ignored { .. } => put_ignored(pen, &place, line),
-        Event::Refused => put_refused(pen, &place, line),
+        Event::Refused { .. } => put_refused(pen, &place, line),
         Event::Stands { server, .. } => put_role_line(pen, &place, server, line),
         Event::File => put_file(pen, &place, line),
         Event::Text => put_text(pen, &place, line),
@@ -270,7 +270,7 @@ fn put_role_line(
     pen.label("role end", words.down(1), line, SERVER_LABEL)
 }
 
-// The disk failed: a rule across both servers up to the history, where the run ends.
+// The disk failed: a rule across all servers up to the history, where the run ends.
 fn put_failure(pen: &mut Pen, place: &Place, line: &[u8]) -> Result<(), AllocError> {
     let from = At(place.frame.server(Server::First), place.y).left(4);
     let to = At(place.frame.history(), place.y);

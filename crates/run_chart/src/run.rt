@@ -19,11 +19,12 @@ pub(crate) struct Message {
     pub(crate) lane: u64,
 }
 
-/// The roles of both servers.
+/// The roles of the servers.
 #[derive(Clone, Copy)]
 pub(crate) struct Roles {
     pub(crate) first: Role,
     pub(crate) second: Role,
+    pub(crate) third: Role,
 }
 
 impl Roles {
@@ -32,6 +33,7 @@ impl Roles {
         match server {
             Server::First => self.first,
             Server::Second => self.second,
+            Server::Third => self.third,
         }
     }
 }
@@ -59,6 +61,8 @@ pub(crate) struct Run {
     pub(crate) rows: Vec<Row>,
     pub(crate) messages: Vec<Message>,
     pub(crate) clients: BTreeSet<u64>,
+    /// Whether a line tells of a third server.
+    pub(crate) third: bool,
     by_name: BTreeMap<Naming, usize>,
     by_number: BTreeMap<u64, usize>,
     active: Server,
@@ -67,18 +71,20 @@ pub(crate) struct Run {
 }
 
 impl Run {
-    /// A run without lines. Server a answers clients at the start of each run; of the other one nothing is told.
+    /// A run without lines. Server a answers clients at the start of each run; of the others nothing is told.
     pub(crate) fn new(alloc: Global) -> Self {
         Run {
             rows: Vec::new(alloc),
             messages: Vec::new(alloc),
             clients: BTreeSet::new(alloc),
+            third: false,
             by_name: BTreeMap::new(alloc),
             by_number: BTreeMap::new(alloc),
             active: Server::First,
             roles: Roles {
                 first: Role::Active,
                 second: Role::Untold,
+                third: Role::Untold,
             },
             time: None,
         }
@@ -116,6 +122,9 @@ impl Run {
         };
         if let Some(client) = client_of(event) {
             self.clients.insert(client)?;
+        }
+        if tells_third(event) {
+            self.third = true;
         }
         let time = self.news(event);
         let active = self.active;
@@ -200,6 +209,7 @@ impl Run {
         match server {
             Server::First => self.roles.first = role,
             Server::Second => self.roles.second = role,
+            Server::Third => self.roles.third = role,
         }
         if role.answers() {
             self.active = server;
@@ -209,12 +219,21 @@ impl Run {
 }
 
 // Whether a line of this role tells of a change. `servers` tells the role that a server has, which no line may have told yet where it
-// is standby; and it alone tells whether an active one is armed.
+// is standby, or a journal; and it alone tells whether an active one is armed.
 fn is_change(known: Role, role: Role) -> bool {
     match known {
-        Role::Untold => role != Role::Standby,
+        Role::Untold => role != Role::Standby && role != Role::Journal,
         Role::Active | Role::Armed => !role.answers(),
         _ => known != role,
+    }
+}
+
+// Whether an event tells of a third server.
+fn tells_third(event: Event) -> bool {
+    match event {
+        Event::Stands { server, .. } => matches!(server, Server::Third),
+        Event::Refused { third } => third,
+        _ => false,
     }
 }
 

@@ -1,7 +1,7 @@
 //! What stands in a printed line as in a script: notifications, masks of streams, and the lines that were refused. The reader of
 //! scripts judges it.
 use crate::events::Event;
-use crate::reading::{event_of, is_kind, refused_line};
+use crate::reading::{event_of, is_kind, is_own_of_three, refused_line};
 use crate::words::{Words, behind};
 use script::{ScriptAnswer, count_lines};
 use std::alloc::{AllocError, Global};
@@ -17,7 +17,7 @@ pub(crate) fn read_event(alloc: Global, line: &[u8]) -> Result<Option<Event>, Al
     let spelled = match event {
         Event::Answered { .. } => is_answer(alloc, behind(line, 4))?,
         Event::CalledBack { .. } => is_callback(alloc, behind(line, 3))?,
-        Event::Refused => is_refusal(alloc, behind(line, 1))?,
+        Event::Refused { .. } => is_refusal(alloc, behind(line, 1))?,
         _ => true,
     };
     Ok(if spelled { Some(event) } else { None })
@@ -42,7 +42,8 @@ fn is_callback(alloc: Global, text: &[u8]) -> Result<bool, AllocError> {
 
 fn is_refusal(alloc: Global, text: &[u8]) -> Result<bool, AllocError> {
     match refused_line(text) {
-        Some(line) => is_line(alloc, b"", line),
+        Some((line, third)) if third && is_own_of_three(line) => Ok(true),
+        Some((line, _)) => is_line(alloc, b"", line),
         None => Ok(false),
     }
 }
