@@ -8,17 +8,17 @@ use crate::journals::{
 };
 use disk_model::{DiskAnswer, MemDisk, SharedDisk};
 use journal_start::{ColdAnswer, Journal};
-use mirror::{Node, Role};
+use mirror::{Node, Role, let_node_go};
 use service_core::Service;
 use std::alloc::Global;
 use std::process::Abort;
-use wire::Message;
+use wire::{Message, let_message_go};
 
 /// Makes a journal of the first value.
 fn makes(rt: &impl Abort, alloc: Global, disk: &mut MemDisk) -> Journal {
     let message = snapshot(rt, alloc);
     let made = Journal::make(alloc, disk, &message);
-    drop(message);
+    let_message_go(Some(message));
     made.expect(rt, "a disk that serves")
 }
 
@@ -36,7 +36,7 @@ fn appends(
     let mut journal = journal;
     assert!(rt; journal.number <= 1 && journal.end <= 100_000);
     let done = journal.append(alloc, disk, &message);
-    drop(message);
+    let_message_go(Some(message));
     assert!(rt; done == want);
     journal
 }
@@ -140,7 +140,7 @@ fn bytes_without_entries_are_no_journal_or_refused(rt: HostRuntime) {
 /// Whether a server can follow a message.
 fn admits(rt: &impl Abort, alloc: Global, node: &Node, message: Message) -> bool {
     let answer = node.admits(alloc, &message);
-    drop(message);
+    let_message_go(Some(message));
     answer.expect(rt, "memory")
 }
 
@@ -154,7 +154,7 @@ fn standby(rt: &impl Abort, alloc: Global) -> Option<Node> {
         },
         _ => None,
     };
-    drop(message);
+    let_message_go(Some(message));
     restored
 }
 
@@ -164,12 +164,12 @@ fn a_server_can_follow_the_value_and_then_the_next_entry(rt: HostRuntime) {
     let node = Node::joining(alloc);
     let value = admits(&rt, alloc, &node, snapshot(&rt, alloc));
     let entry = admits(&rt, alloc, &node, first());
-    drop(node);
+    let_node_go(node);
     assert!(rt; value && !entry);
     let node = standby(&rt, alloc).expect(&rt, "a fit value");
     let value = admits(&rt, alloc, &node, snapshot(&rt, alloc));
     let next = admits(&rt, alloc, &node, first());
     let later = admits(&rt, alloc, &node, second(&rt, alloc));
-    drop(node);
+    let_node_go(node);
     assert!(rt; !value && next && !later);
 }

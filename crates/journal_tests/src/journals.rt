@@ -3,14 +3,14 @@ ghost use Rattle.std.specs.Prelude.{◌≡◌, ◌≢◌, ◌≤◌};
 ghost use Rattle.wire.specs.MessageSpelling.{MessageInRange};
 
 use ais_values::{Name, Seq, StreamKind, Text};
-use calls::{Call, Entry, Saved, SavedStream};
+use calls::{Call, Entry, Saved, SavedStream, let_entries_go};
 use disk_model::{MemDisk, SharedDisk};
 use journal_start::{Cold, ColdAnswer, Journal, cold_start};
-use mirror::Role;
+use mirror::{Role, let_node_go};
 use std::alloc::Global;
 use std::process::Abort;
 use stream_config::{FullAction, LogFile, Mark, StreamAttrs, StreamName, StreamState, well_known};
-use wire::{Message, encode};
+use wire::{Message, encode, let_message_go};
 
 pub const NAME: &[u8] = b"journal.dat";
 
@@ -159,7 +159,7 @@ pub fn bytes_of(rt: &impl Abort, alloc: Global, disk: &mut MemDisk, name: &[u8])
 fn spelled(rt: &impl Abort, alloc: Global) -> Vec<u8> {
     let message = snapshot(rt, alloc);
     let bytes = encode(alloc, &message);
-    drop(message);
+    let_message_go(Some(message));
     bytes.expect(rt, "memory")
 }
 
@@ -193,7 +193,9 @@ fn told_by(cold: Cold) -> Started {
         entries: cold.entries.as_slice().len(),
         role: cold.node.role(),
     };
-    drop(cold);
+    let Cold { node, entries, .. } = cold;
+    let_node_go(node);
+    let_entries_go(entries);
     started
 }
 
