@@ -1,6 +1,7 @@
 //! Values that every layer of the services uses: names, texts, lists, kinds, answers, code tables and the words of causes.
 #![tactic(auto)]
 
+mod boxed;
 mod codes;
 mod digits;
 mod duplicate;
@@ -14,6 +15,7 @@ pub mod tables;
 mod text;
 mod times;
 
+pub use boxed::Boxed;
 pub use codes::{CodeRow, code_of, name_of};
 pub use digits::hex_digit;
 pub use duplicate::{Duplicate, both};

@@ -31,9 +31,16 @@ impl From<AllocError> for NameAnswer {
 }
 
 /// A name: 1 to 256 bytes, each from 32 to 126. Contracts see the list of its bytes.
-#[derive(Drop)]
 pub struct Name {
     bytes: Vec<u8>,
+}
+
+// Written out, as a derived one is proved anew in each crate that lets such a value go.
+impl Drop for Name {
+    fn drop(self) {
+        let Name { bytes } = self;
+        drop(bytes);
+    }
 }
 
 impl Model for Name {

@@ -6,9 +6,16 @@ use std::alloc::{AllocError, Global};
 use std::marker::Model;
 
 /// A list, over a vector with its own allocator. Contracts see the list.
-#[derive(Drop)]
 pub struct Seq<T> {
     items: Vec<T>,
+}
+
+// Written out, as a derived one is proved anew in each crate that lets a list go.
+impl<T: Drop> Drop for Seq<T> {
+    fn drop(self) {
+        let Seq { items } = self;
+        drop(items);
+    }
 }
 
 impl<T> Model for Seq<T> {
@@ -58,7 +65,8 @@ impl<T> Seq<T> {
     pub fn into_vec(self) -> Vec<T>
         ensures { result.items ≡ self }
     {
-        self.items
+        let Seq { items } = self;
+        items
     }
 }
 

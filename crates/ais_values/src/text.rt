@@ -31,9 +31,16 @@ impl From<AllocError> for TextAnswer {
 }
 
 /// A byte string of 0 to 16,384 bytes. Contracts see the list of its bytes.
-#[derive(Drop)]
 pub struct Text {
     bytes: Vec<u8>,
+}
+
+// Written out, as a derived one is proved anew in each crate that lets such a value go.
+impl Drop for Text {
+    fn drop(self) {
+        let Text { bytes } = self;
+        drop(bytes);
+    }
 }
 
 impl Model for Text {

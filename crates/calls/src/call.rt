@@ -1,6 +1,5 @@
 //! What a client asks of the services.
-use crate::Boxed;
-use ais_values::{Duplicate, Text, Version, Which};
+use ais_values::{Boxed, Duplicate, Text, Version, Which};
 use ntf_filters::FilterSet;
 use ntf_types::Notification;
 use record_print::Header;
@@ -8,7 +7,7 @@ use std::alloc::{AllocError, Global};
 use stream_config::{StreamAttrs, StreamName};
 
 /// A call, as the service that accepts it sees it.
-#[derive(PartialEq, Drop)]
+#[derive(PartialEq)]
 pub enum Call {
     /// Begins the use of the Log Service.
     LogInit,
@@ -72,12 +71,65 @@ pub enum Call {
 }
 
 /// What a client asks of its library.
-#[derive(PartialEq, Drop)]
+#[derive(PartialEq)]
 pub enum Ask {
     /// Begins the use of a service, in a version that its library judges.
     Start { service: Which, version: Version },
     /// Any other call.
     Plain { call: Call },
+}
+
+// Written out, as a derived one is proved anew in each crate that lets such a value go.
+impl Drop for Ask {
+    fn drop(self) {
+        match self {
+            Ask::Start {
+                service: _,
+                version: _,
+            } => {}
+            Ask::Plain { call } => drop(call),
+        }
+    }
+}
+
+// Written out, as a derived one is proved anew in each crate that lets a call go.
+impl Drop for Call {
+    fn drop(self) {
+        match self {
+            Call::LogOpen { stream, create } => {
+                drop(stream);
+                drop(create);
+            }
+            Call::LogWrite {
+                stream,
+                invocation: _,
+                flags: _,
+                time: _,
+                header,
+                body,
+            } => {
+                drop(stream);
+                drop(header);
+                drop(body);
+            }
+            Call::LogClose { stream } => drop(stream),
+            Call::NtfSend { notification } => drop(notification),
+            Call::NtfSubscribe { id: _, filters } => drop(filters),
+            Call::ReaderStart {
+                mode: _,
+                value: _,
+                filters,
+            } => drop(filters),
+            Call::LogFilter { stream, mask: _ } => drop(stream),
+            Call::LogInit => {}
+            Call::LogFini => {}
+            Call::NtfInit => {}
+            Call::NtfUnsubscribe { id: _ } => {}
+            Call::ReaderRead { direction: _ } => {}
+            Call::ReaderEnd => {}
+            Call::NtfFini => {}
+        }
+    }
 }
 
 impl Duplicate for Call {

@@ -1,18 +1,18 @@
 //! What a service accepts, and the items that it holds for a client.
-use crate::{Boxed, Call};
-use ais_values::Duplicate;
+use crate::{Call, Shared};
+use ais_values::{Boxed, Duplicate};
 use std::alloc::{AllocError, Global};
 use sub_queue::Item;
 
 /// What a service accepted, and when: nanoseconds since 1970 in UTC.
-#[derive(PartialEq, Drop)]
+#[derive(PartialEq)]
 pub enum Entry {
     /// The call of a client, under its number.
     Called {
         client: u16,
         seq: u32,
         time: i64,
-        call: Call,
+        call: Shared<Call>,
     },
     /// The receipt of a client for the items of the subscription `key`, through a number.
     Receipted {
@@ -30,6 +30,26 @@ pub struct Held {
     /// The number of the call that made the subscription.
     pub key: u32,
     pub item: Boxed<Item>,
+}
+
+// Written out, as a derived one is proved anew in each crate that lets an entry go.
+impl Drop for Entry {
+    fn drop(self) {
+        match self {
+            Entry::Called {
+                client: _,
+                seq: _,
+                time: _,
+                call,
+            } => drop(call),
+            Entry::Receipted {
+                client: _,
+                key: _,
+                through: _,
+                time: _,
+            } => {}
+        }
+    }
 }
 
 impl Duplicate for Entry {

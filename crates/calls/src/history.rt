@@ -7,9 +7,16 @@ use std::alloc::{AllocError, Global};
 use std::marker::Model;
 
 /// The entries that were accepted. Contracts see them, the newest first, and for how many more there is room.
-#[derive(Drop)]
 pub struct History {
     entries: Vec<Entry>,
+}
+
+// Written out, as a derived one is proved anew in each crate that lets such a value go.
+impl Drop for History {
+    fn drop(self) {
+        let History { entries } = self;
+        drop(entries);
+    }
 }
 
 impl Model for History {

@@ -1,7 +1,6 @@
 //! Calls and their answers, entries, callbacks and the saved value of a service; and the history of what was accepted.
 #![tactic(auto)]
 
-mod boxed;
 mod call;
 mod entry;
 mod going;
@@ -9,8 +8,9 @@ mod history;
 mod law;
 mod reply;
 mod saved;
+mod shared;
 
-pub use boxed::Boxed;
+pub use ais_values::Boxed;
 pub use call::{Ask, Call};
 pub use entry::{Entry, Held};
 pub use going::{let_entries_go, let_entry_go, let_history_go};
@@ -18,3 +18,4 @@ pub use history::History;
 pub use law::law_of_equality;
 pub use reply::{Callback, Reply};
 pub use saved::{Saved, SavedAlarm, SavedReader, SavedStream, SavedSub, SavedWindow};
+pub use shared::Shared;

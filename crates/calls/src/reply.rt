@@ -1,13 +1,12 @@
 //! What a service answers, and what a client's callbacks tell.
-use crate::Boxed;
-use ais_values::{Duplicate, Seq, Status};
+use ais_values::{Boxed, Duplicate, Seq, Status};
 use ntf_types::Notification;
 use std::alloc::{AllocError, Global};
 use stream_config::{Mark, StreamName};
 use sub_queue::Lost;
 
 /// The answer to a call.
-#[derive(PartialEq, Drop)]
+#[derive(PartialEq)]
 pub enum Reply {
     /// The call changed nothing.
     Refused { status: Status },
@@ -21,7 +20,7 @@ pub enum Reply {
 }
 
 /// What a callback tells a client.
-#[derive(PartialEq, Drop)]
+#[derive(PartialEq)]
 pub enum Callback {
     /// What became of a record whose writer asked to be told.
     Written {
@@ -44,6 +43,43 @@ pub enum Callback {
         mask: u32,
         written: Option<u64>,
     },
+}
+
+// Written out, as a derived one is proved anew in each crate that lets such a value go.
+impl Drop for Reply {
+    fn drop(self) {
+        match self {
+            Reply::Refused { status: _ } => {}
+            Reply::Done => {}
+            Reply::Sent { id: _ } => {}
+            Reply::Found { notification } => drop(notification),
+            Reply::Marked {
+                filtered: _,
+                mark: _,
+            } => {}
+        }
+    }
+}
+
+impl Drop for Callback {
+    fn drop(self) {
+        match self {
+            Callback::Written {
+                invocation: _,
+                status: _,
+            } => {}
+            Callback::Notified {
+                id: _,
+                notification,
+            } => drop(notification),
+            Callback::Discarded { id: _, lost } => drop(lost),
+            Callback::FilterSet {
+                stream,
+                mask: _,
+                written: _,
+            } => drop(stream),
+        }
+    }
 }
 
 impl Duplicate for Reply {

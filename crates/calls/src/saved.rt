@@ -8,30 +8,63 @@ use stream_config::{Mark, StreamState};
 use sub_queue::{Content, Lost};
 
 /// The window of a client: the number of its next call, and its last replies, the oldest first.
-#[derive(PartialEq, Drop)]
+#[derive(PartialEq)]
 pub struct SavedWindow {
     pub client: u16,
     pub next: u32,
     pub replies: Seq<Reply>,
 }
 
+// Written out, as a derived one is proved anew in each crate that lets such a value go.
+impl Drop for SavedWindow {
+    fn drop(self) {
+        let SavedWindow {
+            client: _,
+            next: _,
+            replies,
+        } = self;
+        drop(replies);
+    }
+}
+
 /// A stream, the clients that have it open, and its mark.
-#[derive(PartialEq, Drop)]
+#[derive(PartialEq)]
 pub struct SavedStream {
     pub state: StreamState,
     pub openers: Seq<u16>,
     pub mark: Mark,
 }
 
+// Written out, as a derived one is proved anew in each crate that lets such a value go.
+impl Drop for SavedStream {
+    fn drop(self) {
+        let SavedStream {
+            state,
+            openers,
+            mark: _,
+        } = self;
+        drop(state);
+        drop(openers);
+    }
+}
+
 /// A stored alarm, under the number of its record.
-#[derive(PartialEq, Drop)]
+#[derive(PartialEq)]
 pub struct SavedAlarm {
     pub k: u32,
     pub notification: Notification,
 }
 
+// Written out, as a derived one is proved anew in each crate that lets such a value go.
+impl Drop for SavedAlarm {
+    fn drop(self) {
+        let SavedAlarm { k: _, notification } = self;
+        drop(notification);
+    }
+}
+
 /// A subscription, with its queue.
-#[derive(PartialEq, Drop)]
+#[derive(PartialEq)]
 pub struct SavedSub {
     pub client: u16,
     /// The number of the call that made it.
@@ -44,8 +77,26 @@ pub struct SavedSub {
     pub lost: Seq<Lost>,
 }
 
+// Written out, as a derived one is proved anew in each crate that lets such a value go.
+impl Drop for SavedSub {
+    fn drop(self) {
+        let SavedSub {
+            client: _,
+            key: _,
+            id: _,
+            filters,
+            first: _,
+            held,
+            lost,
+        } = self;
+        drop(filters);
+        drop(held);
+        drop(lost);
+    }
+}
+
 /// A reader of stored alarms, with the point that it has come to.
-#[derive(PartialEq, Drop)]
+#[derive(PartialEq)]
 pub struct SavedReader {
     pub client: u16,
     pub filters: FilterSet,
@@ -55,8 +106,22 @@ pub struct SavedReader {
     pub fresh: bool,
 }
 
+// Written out, as a derived one is proved anew in each crate that lets such a value go.
+impl Drop for SavedReader {
+    fn drop(self) {
+        let SavedReader {
+            client: _,
+            filters,
+            time: _,
+            id: _,
+            fresh: _,
+        } = self;
+        drop(filters);
+    }
+}
+
 /// The whole value of a service.
-#[derive(PartialEq, Drop)]
+#[derive(PartialEq)]
 pub struct Saved {
     /// How many entries were accepted.
     pub number: u64,
@@ -71,6 +136,32 @@ pub struct Saved {
     pub alarms: Seq<SavedAlarm>,
     pub subs: Seq<SavedSub>,
     pub readers: Seq<SavedReader>,
+}
+
+// Written out, as a derived one is proved anew in each crate that lets a value go.
+impl Drop for Saved {
+    fn drop(self) {
+        let Saved {
+            number: _,
+            last_stamp: _,
+            last_id: _,
+            capacity: _,
+            log_users,
+            ntf_users,
+            windows,
+            streams,
+            alarms,
+            subs,
+            readers,
+        } = self;
+        drop(log_users);
+        drop(ntf_users);
+        drop(windows);
+        drop(streams);
+        drop(alarms);
+        drop(subs);
+        drop(readers);
+    }
 }
 
 impl Duplicate for SavedWindow {

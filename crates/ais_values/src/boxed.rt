@@ -1,7 +1,7 @@
 //! A value that stands by itself in memory.
 ghost use Rattle.std.specs.Prelude.{◌≡◌, IfOk};
 
-use ais_values::Duplicate;
+use crate::Duplicate;
 use std::alloc::{AllocError, Global};
 use std::marker::Model;
 
