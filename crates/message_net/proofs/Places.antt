@@ -1,11 +1,13 @@
 -- Strings in the order in which they came, read as a net whose newest comes first.
-use Rattle.std.proofs.Common.{◌≡◌, ℕ, zero, suc, ◌+◌, ◌≤◌, Bool, true, false, ◌||◌, cond, if◌then◌else◌, Option, Some, None, List, [], ◌∷◌, length, map, nat_eq, refl, ap, sym, ◌∙◌, true≢false, option_map, slice_get, inl, inr, ◌⊎◌, ◌++◌, arith}
+use Rattle.std.proofs.Common.{◌≡◌, ℕ, zero, suc, ◌+◌, ◌≤◌, ◌<◌, Bool, true, false, not, ◌||◌, cond, if◌then◌else◌, Option, Some, None, List, [], ◌∷◌, length, map, nat_eq, refl, ap, sym, ◌∙◌, subst, true≢false, option_map, slice_get, inl, inr, ◌⊎◌, ◌++◌, add-one, arith}
 use Rattle.indexmap.specs.IndexSet.{insert_key}
 use Rattle.std.specs.Global.{Vec}
 use Rattle.std.specs.Str.{bytes_eq}
-use Rattle.std.specs.List.{list_any, position_from, IsDistinct, AllByRecursion}
+use Rattle.std.specs.List.{list_any, position_from, position_or_len, IsDistinct, AllByRecursion}
 use Rattle.std.specs.Cmp.Lexicographic.{bytes_decides}
+use Rattle.std.proofs.lemmas.Bool.{lt-ltb}
 use Rattle.std.proofs.lemmas.Bool.Decides.{eqb_tells}
+use Rattle.std.proofs.lemmas.Iterator.Adapters.{position_from-zero}
 use Rattle.std.proofs.Math.Bool.{or-false}
 use mathlib.Core.List.{reverse_aux}
 use Rattle.message_net.specs.Nets.{knows, posted, bytes_at, place_of}
@@ -70,6 +72,28 @@ counted (Some index) = refl
 -- bytes stand at the place of the string that has them
 pub place-strings : (bytes : List ℕ) (strings : List (Vec ℕ)) → IsDistinct (λ (one other : Vec ℕ). bytes_eq one.items other.items) strings → place_of bytes (reverse_aux (bytes_of strings) []) ≡ option_map suc (position_from (is_of bytes) 0 strings)
 place-strings bytes strings apart = place_all bytes strings [] apart ∙ counted (position_from (is_of bytes) 0 strings)
+
+-- where one has them, by its index
+pub known-place : (bytes : List ℕ) (strings : List (Vec ℕ)) (index : ℕ) → IsDistinct (λ (one other : Vec ℕ). bytes_eq one.items other.items) strings → index ≡ position_or_len (is_of bytes) strings → index < length strings → place_of bytes (reverse_aux (bytes_of strings) []) ≡ Some (index + 1)
+known-place bytes strings index apart is within =
+    let first = position_or_len (is_of bytes) strings in
+    let low : first < length strings = subst (λ (place : ℕ). place < length strings) is within in
+    place-strings bytes strings apart
+    ∙ ap (option_map suc) (sym (position_from-zero (is_of bytes) strings))
+    ∙ ap (λ (b : Bool). option_map suc (cond b (Some first) None)) (lt-ltb first (length strings) low)
+    ∙ ap (λ (place : ℕ). Some (suc place)) (sym is)
+    ∙ ap Some (sym (add-one index))
+
+-- where none has them, the index is behind all
+pub none-len : {X : Type 0} (test : X → Bool) (xs : List X) → list_any test xs ≡ false → position_or_len test xs ≡ length xs
+none-len test [] none = refl
+none-len test (x ∷ xs) none =
+    let P : Bool → Type 0 = λ b. (b || list_any test xs) ≡ false → cond (not b) (1 + position_or_len test xs) 0 ≡ suc (length xs) in
+    let cases : (b : Bool) → P b = elim [
+      | true ↦ λ is. absurd (true≢false is)
+      | false ↦ λ is. omega (arith, none-len test xs is)
+    ] in
+    cases (test x) none
 
 -- a place above all has nothing
 nothing_above : (place : ℕ) (net : List (List ℕ)) → length net + 1 ≤ place → bytes_at place net ≡ None

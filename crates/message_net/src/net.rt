@@ -24,12 +24,25 @@ impl Duplicate for Posted {
 }
 
 /// The byte strings that were posted, each once. Contracts see them, the newest first.
-#[derive(Drop)]
 pub struct Net {
     strings: IndexSet<Vec<u8>>,
     // The place of the newest string of each front, and for each string that of the newest one before it of its front.
     newest: HashMap<u64, u64>,
     older: Vec<Option<u64>>,
+}
+
+// Written out, as a derived one is proved anew in each crate that lets such a value go.
+impl Drop for Net {
+    fn drop(self) {
+        let Net {
+            strings,
+            newest,
+            older,
+        } = self;
+        drop(strings);
+        drop(newest);
+        drop(older);
+    }
 }
 
 impl Model for Net {
@@ -103,12 +116,32 @@ impl Net {
         if let Some(place) = self.place_of(bytes) {
             return Ok(Posted { place, new: false });
         }
-        reserve(&mut self.newest, &mut self.older)?;
         let string = Vec::from_slice(alloc, bytes)?;
-        self.strings.insert(string)?;
-        let place = self.strings.len() as u64;
-        join(&mut self.newest, &mut self.older, front_of(bytes), place);
-        Ok(Posted { place, new: true })
+        self.post_owned(string)
+    }
+
+    /// Posts bytes that the net may keep. Beside that it is `post`, but that it looks for them once, and room for a string more may be taken
+    /// where they stand already.
+    pub fn post_owned(&mut self, bytes: Vec<u8>) -> Result<Posted, AllocError>
+        ensures net { OnOk result (self.new ≡ posted bytes.items self.old) }
+        ensures place { IfOk result (λ it. place_of bytes.items self.new ≡ Some it.place) }
+        ensures first { IfOk result (λ it. it.new ≡ not (knows bytes.items self.old)) }
+        ensures known { IsTrue (knows bytes.items self.old) → IsOk result }
+        ensures err { OnErr result (self.new ≡ self.old) }
+    {
+        if reserve(&mut self.newest, &mut self.older).is_err() {
+            return match self.place_of(bytes.as_slice()) {
+                Some(place) => Ok(Posted { place, new: false }),
+                None => Err(AllocError),
+            };
+        }
+        let front = front_of(bytes.as_slice());
+        let (index, new) = self.strings.insert_full(bytes)?;
+        let place = index as u64 + 1;
+        if new {
+            join(&mut self.newest, &mut self.older, front, place);
+        }
+        Ok(Posted { place, new })
     }
 
     /// The place of the newest string of this front, `None` exactly where none has it.

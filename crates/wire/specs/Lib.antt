@@ -5,6 +5,7 @@ pub mod LogSpelling
 pub mod MessageReading
 pub mod MessageSpelling
 pub mod Messages
+pub mod Mirrored
 pub mod NtfReading
 pub mod NtfSpelling
 pub mod SavedReading

@@ -6,7 +6,7 @@ use crate::Message;
 use crate::list::read_numbered;
 use crate::parts::spell_tagged;
 use crate::wire::Wire;
-use calls::{Entry, Saved};
+use calls::Boxed;
 use std::alloc::{AllocError, Global};
 use sub_queue::Item;
 use wire_code::{Fault, Trouble, read_client, read_count, read_first};
@@ -25,7 +25,7 @@ fn read_server_message(alloc: Global, tag: u8, bytes: &[u8]) -> Result<(Message,
             Ok((Message::MirrorAck { number }, rest))
         }
         7 => {
-            let (saved, rest) = Saved::read_front(alloc, bytes)?;
+            let (saved, rest) = Boxed::read_front(alloc, bytes)?;
             Ok((Message::Snapshot { saved }, rest))
         }
         8 => {

@@ -17,6 +17,6 @@ mod text;
 mod wire;
 
 pub use code::{decode, encode};
-pub use going::{let_message_go, let_messages_go};
+pub use going::{let_message_go, let_messages_go, mirrored};
 pub use law::{law_of_equality, law_of_spellings};
 pub use message::{Message, WireAnswer, WireWhy};

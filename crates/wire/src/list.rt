@@ -5,7 +5,7 @@ ghost use Rattle.wire_code.specs.Reading.{Gives, both, client_at, count_at, many
 
 use crate::wire::Wire;
 use ais_values::Seq;
-use calls::Boxed;
+use calls::{Boxed, Shared};
 use std::alloc::{AllocError, Global};
 use wire_code::{Fault, Trouble, read_client, read_count, read_first};
 
@@ -104,6 +104,26 @@ impl<T: Wire + Drop> Wire for Boxed<T> {
     fn read_front(alloc: Global, bytes: &[u8]) -> Result<(Boxed<T>, &[u8]), Trouble> {
         let (value, rest) = T::read_front(alloc, bytes)?;
         let value = Boxed::new(alloc, value)?;
+        Ok((value, rest))
+    }
+}
+
+impl<T: Wire + Drop> Wire for Shared<T> {
+    ghost text = { T.text };
+
+    ghost Fits = { T.Fits };
+
+    ghost InRange = { T.InRange };
+
+    ghost at = { T.at };
+
+    fn spell(&self, out: &mut Vec<u8>) -> Result<(), AllocError> {
+        self.get().spell(out)
+    }
+
+    fn read_front(alloc: Global, bytes: &[u8]) -> Result<(Shared<T>, &[u8]), Trouble> {
+        let (value, rest) = T::read_front(alloc, bytes)?;
+        let value = Shared::new(alloc, value)?;
         Ok((value, rest))
     }
 }

@@ -1,17 +1,20 @@
 //! The messages of clients and servers, and why bytes are none.
+ghost use Rattle.std.specs.Prelude.{◌≡◌};
+ghost use Rattle.wire.specs.Mirrored.{entry_in};
+
 use ais_values::Duplicate;
-use calls::{Boxed, Call, Entry, Reply, Saved};
+use calls::{Boxed, Call, Entry, Reply, Saved, Shared};
 use std::alloc::{AllocError, Global};
 use sub_queue::Item;
 
 /// What clients and servers send to each other.
-#[derive(PartialEq, Drop)]
+#[derive(PartialEq)]
 pub enum Message {
     /// The call of a client, under its number.
     Request {
         client: u16,
         seq: u32,
-        call: Call,
+        call: Shared<Call>,
     },
     /// The answer to the call of this number.
     Reply {
@@ -42,7 +45,7 @@ pub enum Message {
     },
     /// The value of the service, for a server that joins.
     Snapshot {
-        saved: Saved,
+        saved: Boxed<Saved>,
     },
     /// The server that joined has the value after so many entries.
     JoinAck {
@@ -68,6 +71,53 @@ pub enum WireAnswer {
     Memory,
     /// The bytes are no message: so many of them are the front of one.
     Refused { place: u32, why: WireWhy },
+}
+
+// Written out, as a derived one is proved anew in each crate that lets a message go.
+impl Drop for Message {
+    fn drop(self) {
+        match self {
+            Message::Request {
+                client: _,
+                seq: _,
+                call,
+            } => drop(call),
+            Message::Reply {
+                client: _,
+                seq: _,
+                reply,
+            } => drop(reply),
+            Message::Item {
+                client: _,
+                key: _,
+                item,
+            } => drop(item),
+            Message::Receipt {
+                client: _,
+                key: _,
+                through: _,
+            } => {}
+            Message::Mirror { number: _, entry } => drop(entry),
+            Message::MirrorAck { number: _ } => {}
+            Message::Snapshot { saved } => drop(saved),
+            Message::JoinAck { number: _ } => {}
+        }
+    }
+}
+
+impl Message {
+    /// The number and the entry that the message brings, if it mirrors one; any other is let go.
+    pub(crate) fn mirrored(self) -> Option<(u64, Entry)>
+        ensures { result ≡ entry_in self }
+    {
+        match self {
+            Message::Mirror { number, entry } => Some((number, entry)),
+            other => {
+                drop(other);
+                None
+            }
+        }
+    }
 }
 
 impl Duplicate for Message {
