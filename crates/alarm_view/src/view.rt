@@ -16,10 +16,18 @@ use std::marker::Model;
 
 /// The alarms whose records are stored, in order of their records, and their places in order of event
 /// time and id. Contracts see the list of alarms, and for how many more there is room.
-#[derive(Drop)]
 pub struct AlarmView {
     alarms: VecDeque<KeptAlarm>,
     order: Vec<Place>,
+}
+
+// Written out, as a derived one is proved anew in each crate that lets such a value go.
+impl Drop for AlarmView {
+    fn drop(self) {
+        let AlarmView { alarms, order } = self;
+        drop(alarms);
+        drop(order);
+    }
 }
 
 impl Model for AlarmView {

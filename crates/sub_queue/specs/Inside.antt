@@ -1,6 +1,7 @@
--- Words of bodies alone: how a queue is kept, its items with their numbers, in a vector with room for all of them.
+-- Words of bodies alone: how a queue is kept, its items with their numbers, in a ring with room for all of them.
 use Rattle.std.specs.Prelude.{◌≡◌, ℕ, ◌+◌, ◌-◌, ◌≤◌, List, map, vec_len}
 use Rattle.std.specs.Vec.{vec_capacity}
+use Rattle.std.specs.VecDeque.{deque_len, deque_capacity}
 use Rattle.sub_queue.specs.declared.queue.SubQueue.TheInside.{Inside}
 use Rattle.sub_queue.specs.declared.item.Content.{Content}
 use Rattle.sub_queue.specs.declared.item.Item.{Item}
@@ -22,7 +23,7 @@ queue_of inside = record {
 abbrev pub kept_inside : Inside → KeptQueue
 kept_inside inside = record {
   queue = queue_of inside;
-  spare = inside.capacity - vec_len inside.items + (vec_capacity inside.lost - vec_len inside.lost);
+  spare = inside.capacity - deque_len inside.items + (vec_capacity inside.lost - vec_len inside.lost);
 }
 
 -- a queue is sound, its items have their numbers in order, and there is room for as many as it may hold
@@ -32,4 +33,4 @@ pub record IsKeptAs (queue : Queue) (items : List Item) (places : ℕ) : Type 0 
   pub room : queue.capacity ≤ places
 
 abbrev pub IsKept : Inside → Type 0
-IsKept inside = IsKeptAs (queue_of inside) inside.items.items (vec_capacity inside.items)
+IsKept inside = IsKeptAs (queue_of inside) inside.items.items (deque_capacity inside.items)

@@ -11,7 +11,7 @@ pub struct Lost {
 }
 
 /// What an item of a subscription holds.
-#[derive(PartialEq, Drop)]
+#[derive(PartialEq)]
 pub enum Content {
     /// A notification.
     Notified { notification: Notification },
@@ -19,11 +19,29 @@ pub enum Content {
     Discarded { lost: Seq<Lost> },
 }
 
+// Written out, as a derived one is proved anew in each crate that lets such a value go.
+impl Drop for Content {
+    fn drop(self) {
+        match self {
+            Content::Notified { notification } => drop(notification),
+            Content::Discarded { lost } => drop(lost),
+        }
+    }
+}
+
 /// An item of a subscription, under its number. The numbers of a subscription are 1, 2, 3 and so on.
-#[derive(PartialEq, Drop)]
+#[derive(PartialEq)]
 pub struct Item {
     pub number: u32,
     pub content: Content,
+}
+
+// Written out, as a derived one is proved anew in each crate that lets such a value go.
+impl Drop for Item {
+    fn drop(self) {
+        let Item { number: _, content } = self;
+        drop(content);
+    }
 }
 
 impl Duplicate for Lost {

@@ -1,6 +1,7 @@
 //! The queue of one subscription.
 ghost use Rattle.std.specs.Prelude.{◌≡◌, ◌+◌, ◌<◌, ◌≤◌, ◌↔◌, false, [], ◌++◌, drop, length, IsTrue, IsOk, IfOk, OnOk, OnErr, vec_len};
 ghost use Rattle.std.specs.Vec.{vec_capacity};
+ghost use Rattle.std.specs.VecDeque.{deque_len, deque_capacity};
 ghost use Rattle.sub_queue.specs.Items.{mark_of, numbered, discarded};
 ghost use Rattle.ntf_types.specs.declared.notification.Notification.{Notification};
 ghost use Rattle.sub_queue.specs.Queue.{IsCapacity, IsSound, IsNew, HasNumberLeft, empty_queue, queue_of_parts, has_room, offered, with_lost, received};
@@ -9,19 +10,34 @@ use crate::{Content, Item, Lost};
 use ais_values::Seq;
 use ntf_types::{Notification, kind_of};
 use std::alloc::{AllocError, Global};
+use std::collections::VecDeque;
 use std::marker::Model;
 use std::mem;
 
 /// The items of a subscription that have no receipt yet, at most `capacity` of them, and the
 /// notifications that were lost since all places were taken. Contracts see the queue, and for how many
 /// notifications more there is room.
-#[derive(Drop)]
 pub struct SubQueue {
     alloc: Global,
     capacity: u32,
     first: u32,
-    items: Vec<Item>,
+    items: VecDeque<Item>,
     lost: Vec<Lost>,
+}
+
+// Written out, as a derived one is proved anew in each crate that lets such a value go.
+impl Drop for SubQueue {
+    fn drop(self) {
+        let SubQueue {
+            alloc: _,
+            capacity: _,
+            first: _,
+            items,
+            lost,
+        } = self;
+        drop(items);
+        drop(lost);
+    }
 }
 
 impl Model for SubQueue {
@@ -37,10 +53,10 @@ impl Model for SubQueue {
 }
 
 /// Removes items from the front.
-fn remove_front(items: &mut Vec<Item>, count: usize)
-    requires { count ≤ vec_len items.old }
+fn remove_front(items: &mut VecDeque<Item>, count: usize)
+    requires { count ≤ deque_len items.old }
     ensures items { items.new.items ≡ drop count items.old.items }
-    ensures capacity { vec_capacity items.new ≡ vec_capacity items.old }
+    ensures capacity { deque_capacity items.new ≡ deque_capacity items.old }
 {
     let rest = items.len() - count;
     items.rotate_left(count);
@@ -58,15 +74,15 @@ pub fn mark_of(notification: &Notification) -> Lost
 }
 
 /// Adds an item of what was lost, where anything was. It takes the place of a removed one.
-fn add_discarded(items: &mut Vec<Item>, number: u32, lost: Seq<Lost>)
-    requires { vec_len items.old < vec_capacity items.old }
+fn add_discarded(items: &mut VecDeque<Item>, number: u32, lost: Seq<Lost>)
+    requires { deque_len items.old < deque_capacity items.old }
     ensures items { items.new.items ≡ items.old.items ++ numbered number (discarded lost) }
-    ensures capacity { vec_capacity items.new ≡ vec_capacity items.old }
+    ensures capacity { deque_capacity items.new ≡ deque_capacity items.old }
 {
     if !lost.as_slice().is_empty() {
         let content = Content::Discarded { lost };
         let item = Item { number, content };
-        items.push_reserved(item);
+        items.push_back_reserved(item);
     }
 }
 
@@ -101,7 +117,7 @@ impl SubQueue {
             alloc,
             capacity: cap,
             first: 1,
-            items: Vec::with_capacity(alloc, cap as usize)?,
+            items: VecDeque::with_capacity(alloc, cap as usize)?,
             lost: Vec::new(alloc),
         })
     }
@@ -122,7 +138,7 @@ impl SubQueue {
             alloc,
             capacity: cap,
             first,
-            items,
+            items: VecDeque::from_vec(items),
             lost: lost.into_vec(),
         })
     }
@@ -171,7 +187,7 @@ impl SubQueue {
         if count < self.capacity as usize {
             let number = self.first + count as u32;
             let content = Content::Notified { notification };
-            self.items.push_reserved(Item { number, content });
+            self.items.push_back_reserved(Item { number, content });
         } else {
             let mark = mark_of(&notification);
             drop(notification);
@@ -218,12 +234,21 @@ impl SubQueue {
         add_discarded(&mut self.items, number, Seq::from_vec(lost));
     }
 
-    /// The items that are held, in order of their numbers.
-    pub fn items(&self) -> &[Item]
-        ensures items { result.now ≡ numbered self.now.queue.first self.now.queue.held }
+    /// How many items are held.
+    pub fn len(&self) -> usize
+        ensures held { result ≡ length self.now.queue.held }
         ensures sound { IsSound self.now.queue }
     {
-        self.items.as_slice()
+        self.items.len()
+    }
+
+    /// The items that are held, in order of their numbers: those in front, and those behind them.
+    pub fn items(&self) -> (&[Item], &[Item])
+        ensures items { result.0.now ++ result.1.now
+            ≡ numbered self.now.queue.first self.now.queue.held }
+        ensures sound { IsSound self.now.queue }
+    {
+        self.items.as_slices()
     }
 
     /// What was lost since the last item was made, in order.
