@@ -2,8 +2,10 @@
 //! stand above.
 #![tactic(auto)]
 
+mod filling;
 mod filtering;
 mod law;
 
+pub use filling::filled_time;
 pub use filtering::is_filtered;
 pub use law::{law_of_changes, law_of_files, law_of_names, law_of_records, law_of_rounds};

@@ -1,9 +1,9 @@
 //! Filters and sets of filters.
-use ais_values::{ClassId, Duplicate, Name, Seq, both};
+use ais_values::{ClassId, Duplicate, Name, Seq};
 use std::alloc::{AllocError, Global};
 
 /// A filter of notifications of one type. A list that is not empty asks for one of its values.
-#[derive(PartialEq, Drop)]
+#[derive(PartialEq)]
 pub struct Filter {
     /// Event types.
     pub types: Seq<u16>,
@@ -20,14 +20,54 @@ pub struct Filter {
     pub severities: Seq<u16>,
 }
 
+// Written out, as a derived one is proved anew in each crate that lets such a value go.
+impl Drop for Filter {
+    fn drop(self) {
+        let Filter {
+            types,
+            objects,
+            notifiers,
+            classes,
+            sources,
+            causes,
+            severities,
+        } = self;
+        drop(types);
+        drop(objects);
+        drop(notifiers);
+        drop(classes);
+        drop(sources);
+        drop(causes);
+        drop(severities);
+    }
+}
+
 /// At most one filter for each type of notifications. A type without one is not asked for.
-#[derive(PartialEq, Drop)]
+#[derive(PartialEq)]
 pub struct FilterSet {
     pub objects: Option<Filter>,
     pub attributes: Option<Filter>,
     pub states: Option<Filter>,
     pub alarms: Option<Filter>,
     pub security: Option<Filter>,
+}
+
+// Written out, as a derived one is proved anew in each crate that lets such a value go.
+impl Drop for FilterSet {
+    fn drop(self) {
+        let FilterSet {
+            objects,
+            attributes,
+            states,
+            alarms,
+            security,
+        } = self;
+        drop(objects);
+        drop(attributes);
+        drop(states);
+        drop(alarms);
+        drop(security);
+    }
 }
 
 impl Duplicate for Filter {
@@ -46,18 +86,12 @@ impl Duplicate for Filter {
 
 impl Duplicate for FilterSet {
     fn copy(&self, alloc: Global) -> Result<Self, AllocError> {
-        let changes = both(
-            both(self.objects.copy(alloc), self.attributes.copy(alloc)),
-            self.states.copy(alloc),
-        );
-        let alarms = both(self.alarms.copy(alloc), self.security.copy(alloc));
-        let (((objects, attributes), states), (alarms, security)) = both(changes, alarms)?;
         Ok(FilterSet {
-            objects,
-            attributes,
-            states,
-            alarms,
-            security,
+            objects: self.objects.copy(alloc)?,
+            attributes: self.attributes.copy(alloc)?,
+            states: self.states.copy(alloc)?,
+            alarms: self.alarms.copy(alloc)?,
+            security: self.security.copy(alloc)?,
         })
     }
 }

@@ -80,7 +80,7 @@ fn places_of(subs: &[Subscription], kind: Kind) -> ArrayVec<u8, 64>
     let mut places = ArrayVec::new();
     for place in 0..subs.len() {
         let kept = &subs[place];
-        let theirs = has_filter(&kept.filters, kind);
+        let theirs = has_filter(kept.filters.get(), kind);
         add_place(&mut places, place, theirs);
     }
     places

@@ -4,6 +4,7 @@
 
 mod by_kind;
 mod editing;
+mod judging;
 mod law;
 mod offering;
 mod plan;
@@ -12,6 +13,7 @@ mod searching;
 mod state;
 mod subscription;
 
+pub use judging::{asks_for_alarms, is_alarm, is_usable};
 pub use law::law_of_history;
 pub use plan::SendPlan;
 pub use state::NtfState;

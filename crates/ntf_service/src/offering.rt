@@ -70,7 +70,7 @@ fn add_offer(
     ensures count { vec_len offers.new ≤ vec_len offers.old + 1 }
     ensures capacity { vec_capacity offers.new ≡ vec_capacity offers.old }
 {
-    if !is_asked_for(&kept.filters, notification) {
+    if !is_asked_for(kept.filters.get(), notification) {
         return Ok(());
     }
     let offer = offer_to(alloc, place, &kept.queue, notification)?;

@@ -119,7 +119,7 @@ pub(crate) fn is_key_above(subs: &[Subscription], client: u16, key: u32) -> bool
 fn has_number_left(kept: &Subscription) -> bool
     ensures { IsTrue result ↔ HasNumberLeft kept.now.queue.queue }
 {
-    let held = kept.queue.items().len() as u64;
+    let held = kept.queue.len() as u64;
     u64::from(kept.queue.first()) + held < 4_294_967_295
 }
 

@@ -1,7 +1,6 @@
 //! The state, and what each call makes of it.
 ghost use Rattle.std.specs.Prelude.{◌≡◌, ◌≢◌, ◌↔◌, ◌+◌, ◌≤◌, nat_lt, length, IfOk, OnOk, OnErr, option_copied, option_map, slice_get, IsTrue};
 ghost use Rattle.sub_queue.specs.Queue.{IsCapacity, empty_queue};
-ghost use Rattle.ntf_filters.specs.FitTests.{is_fit};
 ghost use Rattle.client_set.specs.Rising.{IsRising};
 ghost use Rattle.client_set.specs.Members.{has};
 ghost use Rattle.ntf_history.specs.Tables.{empty_table, table_with, sub_with, has_item, IsSoundTable, with_id, is_new_in, after_begin, after_end, after_subscribe, after_unsubscribe, after_send, after_receipt};
@@ -11,15 +10,16 @@ ghost use Rattle.ntf_service.specs.Told.{told, all_told};
 
 use crate::by_kind::{ByKind, kind_for};
 use crate::editing::{add, receive, remove_for, remove_under};
+use crate::judging::is_usable;
 use crate::offering::offers_for;
 use crate::plan::{SendPlan, make_offers};
 use crate::rooms::{all_places, make_room};
 use crate::searching::{find_at, has_id, have_numbers_left, is_key_above, kept_at};
 use crate::subscription::Subscription;
-use ais_values::{Duplicate, Status};
+use ais_values::{Boxed, Duplicate, Status};
 use arrayvec::ArrayVec;
 use client_set::ClientSet;
-use ntf_filters::{FilterSet, check_filters};
+use ntf_filters::FilterSet;
 use ntf_types::Notification;
 use std::alloc::{AllocError, Global};
 use std::marker::Model;
@@ -32,7 +32,6 @@ const MAX_SUBSCRIPTIONS: usize = 64;
 /// in order of client, then key. Beside them stand their places by the types that they ask for, and the places of the queues
 /// in which there may be no room for a notification more. Contracts see what is kept, and for how many sends more there is
 /// room: 1 where each queue has room.
-#[derive(Drop)]
 pub struct NtfState {
     capacity: u32,
     users: ClientSet,
@@ -40,6 +39,24 @@ pub struct NtfState {
     subs: Vec<Subscription>,
     by_kind: ByKind,
     lacking: ArrayVec<u8, 64>,
+}
+
+// Written out, as a derived one is proved anew in each crate that lets such a value go.
+impl Drop for NtfState {
+    fn drop(self) {
+        let NtfState {
+            capacity: _,
+            users,
+            last_id: _,
+            subs,
+            by_kind,
+            lacking,
+        } = self;
+        drop(users);
+        drop(subs);
+        drop(by_kind);
+        drop(lacking);
+    }
 }
 
 impl Model for NtfState {
@@ -68,7 +85,7 @@ fn subscription(
         told kept ≡ sub_with (sub_of client key id filters.now) (empty_queue cap)) }
 {
     let queue = SubQueue::new(alloc, cap)?;
-    let filters = filters.copy(alloc)?;
+    let filters = Boxed::new(alloc, filters.copy(alloc)?)?;
     Ok(Subscription {
         client,
         key,
@@ -76,13 +93,6 @@ fn subscription(
         filters,
         queue,
     })
-}
-
-/// Whether filters may be used.
-fn is_usable(filters: &FilterSet) -> bool
-    ensures { result ≡ is_fit filters.now }
-{
-    check_filters(filters).is_ok()
 }
 
 /// Whether a subscription holds an item of this number.
@@ -228,23 +238,36 @@ impl NtfState {
         Ok(())
     }
 
-    /// The plan of `send` for the state as it is. Of the subscriptions only those are looked at that have a filter of
-    /// the notification's type. An error is want of memory.
-    fn send_plan(
-        &self,
-        alloc: Global,
-        mut notification: Notification,
-    ) -> Result<SendPlan, AllocError>
-        requires { CanSendMore self.now.table }
-        ensures { IfOk result (PlansSend self.now.table notification) }
+    /// The plan of `send` for the state as it is, of a notification that has the next id. Of the subscriptions only
+    /// those are looked at that have a filter of the notification's type. An error is want of memory.
+    fn send_plan(&self, alloc: Global, notification: &Notification) -> Result<SendPlan, AllocError>
+        requires can { CanSendMore self.now.table }
+        requires named { with_id (self.now.table.last_id + 1) notification.now
+            ≡ notification.now }
+        ensures { IfOk result (PlansSend self.now.table notification.now) }
     {
         let id = self.last_id + 1;
-        notification.id = id;
         let places = self.by_kind.places(kind_for(&notification.body));
-        let planned = offers_for(alloc, self.subs.as_slice(), places, &notification);
-        drop(notification);
-        let offers = planned?;
+        let offers = offers_for(alloc, self.subs.as_slice(), places, notification)?;
         Ok(SendPlan { id, offers })
+    }
+
+    /// Plans `send` of a notification that is lent and has the next id already: of it only the shares of subscriptions are
+    /// copied. Beside that it is `plan_send`.
+    pub fn plan_lent(
+        &mut self,
+        alloc: Global,
+        notification: &Notification,
+    ) -> Result<SendPlan, AllocError>
+        requires can { CanSendMore self.old.table }
+        requires named { with_id (self.old.table.last_id + 1) notification.now
+            ≡ notification.now }
+        ensures ok { IfOk result (PlansSend self.old.table notification.now) }
+        ensures table { self.new.table ≡ self.old.table }
+        ensures room { OnOk result (1 ≤ self.new.spare) }
+    {
+        self.make_room(alloc)?;
+        self.send_plan(alloc, notification)
     }
 
     /// Plans `send`: what it gives and makes of the state, with a share of the notification for each subscription that
@@ -252,20 +275,18 @@ impl NtfState {
     pub fn plan_send(
         &mut self,
         alloc: Global,
-        notification: Notification,
+        mut notification: Notification,
     ) -> Result<SendPlan, AllocError>
         requires { CanSendMore self.old.table }
         ensures ok { IfOk result (PlansSend self.old.table notification) }
         ensures table { self.new.table ≡ self.old.table }
         ensures room { OnOk result (1 ≤ self.new.spare) }
     {
-        match self.make_room(alloc) {
-            Ok(()) => self.send_plan(alloc, notification),
-            Err(error) => {
-                drop(notification);
-                Err(error)
-            }
-        }
+        notification.id = self.last_id + 1;
+        let planned = self.plan_lent(alloc, &notification);
+        drop(notification);
+        let plan = planned?;
+        Ok(plan)
     }
 
     /// Makes a send that was planned for the state as it is, into room that was made for it. The answer is its id. It

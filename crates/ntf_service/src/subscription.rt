@@ -1,4 +1,5 @@
 //! A subscription as it is kept.
+use ais_values::Boxed;
 use ntf_filters::FilterSet;
 use sub_queue::SubQueue;
 
@@ -9,6 +10,6 @@ pub struct Subscription {
     pub client: u16,
     pub key: u32,
     pub id: u32,
-    pub filters: FilterSet,
+    pub filters: Boxed<FilterSet>,
     pub queue: SubQueue,
 }

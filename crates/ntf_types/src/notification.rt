@@ -7,7 +7,7 @@ use ais_values::{ClassId, Duplicate, Name, Seq, Text};
 use std::alloc::{AllocError, Global};
 
 /// What a notification tells, by its type.
-#[derive(PartialEq, Drop)]
+#[derive(PartialEq)]
 pub enum Body {
     /// An object was created or deleted.
     Objects {
@@ -39,8 +39,34 @@ pub enum Body {
     },
 }
 
+// Written out, as a derived one is proved anew in each crate that lets such a value go.
+impl Drop for Body {
+    fn drop(self) {
+        match self {
+            Body::Objects { source: _, attrs } => drop(attrs),
+            Body::Attributes { source: _, changes } => drop(changes),
+            Body::States { source: _, changes } => drop(changes),
+            Body::Alarm {
+                cause: _,
+                severity: _,
+            } => {}
+            Body::Security {
+                cause: _,
+                severity: _,
+                detector,
+                user,
+                provider,
+            } => {
+                drop(detector);
+                drop(user);
+                drop(provider);
+            }
+        }
+    }
+}
+
 /// A notification. The service gives the id; before it is sent the id is 0.
-#[derive(PartialEq, Drop)]
+#[derive(PartialEq)]
 pub struct Notification {
     pub id: u64,
     pub event_type: u16,
@@ -58,6 +84,30 @@ pub struct Notification {
     /// Additional information.
     pub info: Seq<Pair>,
     pub body: Body,
+}
+
+// Written out, as a derived one is proved anew in each crate that lets such a value go.
+impl Drop for Notification {
+    fn drop(self) {
+        let Notification {
+            id: _,
+            event_type: _,
+            object,
+            notifier,
+            class: _,
+            event_time: _,
+            correlated,
+            text,
+            info,
+            body,
+        } = self;
+        drop(object);
+        drop(notifier);
+        drop(correlated);
+        drop(text);
+        drop(info);
+        drop(body);
+    }
 }
 
 /// The code of a notification's type.

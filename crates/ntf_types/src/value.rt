@@ -3,7 +3,7 @@ use ais_values::{Duplicate, Name, Text};
 use std::alloc::{AllocError, Global};
 
 /// A value of an attribute, of additional information or of a security alarm.
-#[derive(PartialEq, Drop)]
+#[derive(PartialEq)]
 pub enum Value {
     Int { value: i64 },
     NameOf { name: Name },
@@ -11,19 +11,52 @@ pub enum Value {
     Binary { bytes: Text },
 }
 
+// Written out, as a derived one is proved anew in each crate that lets such a value go.
+impl Drop for Value {
+    fn drop(self) {
+        match self {
+            Value::Int { value: _ } => {}
+            Value::NameOf { name } => drop(name),
+            Value::TextOf { text } => drop(text),
+            Value::Binary { bytes } => drop(bytes),
+        }
+    }
+}
+
 /// A value under a number: an attribute of an object, or an element of additional information.
-#[derive(PartialEq, Drop)]
+#[derive(PartialEq)]
 pub struct Pair {
     pub id: u16,
     pub value: Value,
 }
 
+// Written out, as a derived one is proved anew in each crate that lets such a value go.
+impl Drop for Pair {
+    fn drop(self) {
+        let Pair { id: _, value } = self;
+        drop(value);
+    }
+}
+
 /// An attribute's value after a change, and the one before it where that is known.
-#[derive(PartialEq, Drop)]
+#[derive(PartialEq)]
 pub struct Change {
     pub id: u16,
     pub after: Value,
     pub before: Option<Value>,
+}
+
+// Written out, as a derived one is proved anew in each crate that lets such a value go.
+impl Drop for Change {
+    fn drop(self) {
+        let Change {
+            id: _,
+            after,
+            before,
+        } = self;
+        drop(after);
+        drop(before);
+    }
 }
 
 /// A state after a change, and the one before it where that is known.

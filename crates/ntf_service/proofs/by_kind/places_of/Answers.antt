@@ -13,4 +13,4 @@ loop-place-preserved c =
     let test = has_filter c.args.kind in
     let so_far = positions test (filters_of (take place c.args.subs.now)) in
     let next : place + 1 ≡ suc place = omega arith in
-    c.add_place.ensures ∙ ap (λ places. places ++ cond c.has_filter-theirs.result (place ∷ []) []) c.loop-place.invariant ∙ ap (λ b. so_far ++ cond b (place ∷ []) []) c.has_filter-theirs.ensures ∙ sym (positions-next test c.args.subs.now place (place + 1) c.index-subs-place.result c.index-subs-place.is (omega (arith, c.loop-place-test.true)) next)
+    c.add_place.ensures ∙ ap (λ places. places ++ cond c.has_filter-theirs.result (place ∷ []) []) c.loop-place.invariant ∙ ap (λ b. so_far ++ cond b (place ∷ []) []) (c.has_filter-theirs.ensures ∙ ap test c.get.ensures) ∙ sym (positions-next test c.args.subs.now place (place + 1) c.index-subs-place.result c.index-subs-place.is (omega (arith, c.loop-place-test.true)) next)
