@@ -12,7 +12,7 @@ use ais_values::StreamKind;
 pub const MAX_EXPR: usize = 1_024;
 
 /// Where the reading of an expression stands.
-#[derive(Clone, Copy, Debug, PartialEq, Eq)]
+#[derive(Clone, Copy)]
 enum Stand {
     /// Between pieces, or in a plain one.
     Between,

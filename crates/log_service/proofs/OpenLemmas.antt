@@ -1,6 +1,6 @@
 -- What an ok open tells, and what it makes of the state.
 use Rattle.std.proofs.Common.{◌≡◌, ℕ, nat_le, Bool, true, false, not, ◌&&◌, List, [], ◌∷◌, w64, refl, ap, sym, ◌∙◌, subst, arith}
-use Rattle.std.specs.Prelude.{Option, Some, None, option_map, ℤ, pos, ◌≤ℤ◌, unsigned_abs}
+use Rattle.std.specs.Prelude.{Option, Some, None, is_some, option_map, ℤ, pos, ◌≤ℤ◌, unsigned_abs}
 use Rattle.std.specs.Option.{option_map_or, ForSome}
 use Rattle.std.specs.List.{list_any}
 use Rattle.std.proofs.lemmas.Bool.{and_right}
@@ -17,6 +17,7 @@ use Rattle.stream_config.proofs.AttributeLaws.{decides_attrs}
 use Rattle.log_history.specs.Names.{is_application}
 use Rattle.log_history.specs.Answers.{answer, open_rows}
 use Rattle.log_history.specs.Changes.{Opened}
+use Rattle.log_history.specs.Firsts.{change_first}
 use Rattle.log_history.specs.Table.{OpenStream, LogTable, is_named, with_opener, has_nobody, opened_stream}
 use Rattle.log_history.specs.KeptAnswers.{kept_stream, has_place, is_crowd, open_status, making_in}
 use Rattle.log_service.specs.Moments.{IsTimeOfCall, IsMoment, second_of}
@@ -55,6 +56,13 @@ makes-new kept client name create attrs ok makes = by_case (kept_stream kept.str
 pub making-passes : (kept : LogTable) (client : ℕ) (name : StreamName) (create : Option StreamAttrs) → open_status kept client name create ≡ status.Ok → ForSome (making_in kept.streams name create) (PassesAttrs (kind_of name))
 making-passes kept client name create ok attrs is = (makes-new kept client name create attrs ok is).passes
 
+-- an open of a stream that lives makes none
+pub making-none : (streams : List OpenStream) (name : StreamName) (create : Option StreamAttrs) → is_some (kept_stream streams name) ≡ true → making_in streams name create ≡ None
+making-none streams name create lives = by_case (kept_stream streams name) lives where
+  by_case : (found : Option OpenStream) → is_some found ≡ true → option_map_or (λ (_ : OpenStream). None) found create ≡ None
+  by_case (Some stream) lives = refl
+  by_case None lives = cc
+
 -- an opened stream is the change that was made
 pub made-opened : (last now : ℤ) (client number : ℕ) (name : StreamName) (making : Option StreamAttrs) (old new : List OpenStream) (users : List ℕ) (kept : LogTable) (opened : ℤ × List StreamEvent) (stamp : ℤ) (events : List StreamEvent) → table_with (unsigned_abs last) users old ≡ kept → OpensIn last now client number name making old new opened → stamp ≡ opened.0 → events ≡ opened.1 → Made (Opened client name making (second_of now) number) kept (table_with (unsigned_abs stamp) users new) events
 made-opened last now client number name None old new users kept opened stamp events kept_is opens stamp_is events_are =
@@ -73,6 +81,15 @@ made-opened last now client number name (Some attrs) old new users kept opened s
 joined-busy : (client : ℕ) (stream : OpenStream) → has_nobody (with_opener client stream) ≡ false
 joined-busy client stream =
     ap (λ b. is_application stream.state.name && b) (some-put client stream.openers) ∙ and_right (is_application stream.state.name) false refl
+
+-- streams of which one was joined by a client
+pub few-joined : (client : ℕ) (name : StreamName) (old new : List OpenStream) → new ≡ change_first (is_named name) (with_opener client) old → AreFew old → AreFew new
+few-joined client name old new is few =
+    subst (λ (streams : List OpenStream). AreFew streams) (sym is) (AreFew-changed (with_opener client) (λ _. refl) (is_named name) old few)
+
+pub busy-joined : (client : ℕ) (name : StreamName) (old new : List OpenStream) → new ≡ change_first (is_named name) (with_opener client) old → list_any has_nobody old ≡ false → list_any has_nobody new ≡ false
+busy-joined client name old new is busy =
+    ap (list_any has_nobody) is ∙ busy-changed (with_opener client) (λ stream _. joined-busy client stream) (is_named name) old busy
 
 -- the state stays as it is kept
 pub record IsKeptOpen (stamp : ℤ) (new : List OpenStream) : Type 0 where
@@ -93,8 +110,8 @@ kept-open last now client number name None old new opened moment few busy makes 
     record {
       fits = subst (λ (z : ℤ). SFits w64 z) (sym stamp_is) (moment-fits last now moment);
       from = subst (λ (z : ℤ). pos 0 ≤ℤ z) (sym stamp_is) moment.last_from;
-      few = subst (λ (streams : List OpenStream). AreFew streams) (sym opens.streams) (AreFew-changed (with_opener client) (λ _. refl) (is_named name) old few);
-      busy = ap (list_any has_nobody) opens.streams ∙ busy-changed (with_opener client) (λ stream _. joined-busy client stream) (is_named name) old busy;
+      few = few-joined client name old new opens.streams few;
+      busy = busy-joined client name old new opens.streams busy;
     }
 kept-open last now client number name (Some attrs) old new opened moment few busy makes opens =
     let stamp_is = opens.stamp in

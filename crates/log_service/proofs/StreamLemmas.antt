@@ -1,5 +1,5 @@
 -- Facts of one stream: who is left when a client leaves, the last file closed, an expression read.
-use Rattle.std.proofs.Common.{◌≡◌, ℕ, ◌+◌, ◌-◌, ◌*◌, ◌%◌, ◌≤◌, ◌<◌, ◌==◌, suc, Bool, true, false, not, ◌&&◌, inl, inr, cond, List, [], ◌∷◌, length, get_or, set, refl, ap, sym, ◌∙◌, subst, arith}
+use Rattle.std.proofs.Common.{◌≡◌, ℕ, ◌+◌, ◌-◌, ◌*◌, max, ◌%◌, ◌≤◌, ◌<◌, ◌==◌, suc, Bool, true, false, not, ◌&&◌, inl, inr, cond, List, [], ◌∷◌, length, get_or, set, refl, ap, sym, ◌∙◌, subst, arith}
 use Rattle.std.specs.Prelude.{Option, Some, None, is_some, ℤ, pos, ◌≤ℤ◌, unsigned_abs, Ok, Err, Result}
 use Rattle.std.specs.List.{list_all}
 use Rattle.client_set.specs.Rising.{without}
@@ -74,6 +74,15 @@ set-last_with at len (file ∷ next ∷ files) read some is =
     let behind : read ≡ get_or (next ∷ files) (length (next ∷ files) - 1) read = is ∙ ap (λ n. get_or (file ∷ next ∷ files) n read) here in
     ap (λ n. set (file ∷ next ∷ files) n (file_with at len read)) here
     ∙ ap (λ rest. file ∷ rest) (set-last_with at len (next ∷ files) read (omega arith) behind)
+
+-- so many bytes written at a place end as one that ends there does
+pub ends-same : (at len : ℕ) (files : List LogFile) → files_with 0 (at + len) files ≡ files_with at len files
+ends-same at len [] = refl
+ends-same at len (file ∷ []) =
+    let sized : ℕ → List LogFile = λ bytes. record { created = file.created; closed = file.closed; first = file.first; bytes = bytes } ∷ [] in
+    let from_0 : 0 + (at + len) ≡ at + len = omega arith in
+    ap (λ end. sized (max file.bytes end)) from_0
+ends-same at len (file ∷ next ∷ files) = ap (λ rest. file ∷ rest) (ends-same at len (next ∷ files))
 
 -- the last stamp after a record
 pub last-due : (last : ℤ) (second : ℕ) (rec : LogRecord) (state : StreamState) → pos 0 ≤ℤ last → last_with last (due_stamps (unsigned_abs last) second rec state) ≡ pos (last_after_due (unsigned_abs last) second rec state)

@@ -16,8 +16,9 @@ use Rattle.log_history.specs.Firsts.{change_first}
 use Rattle.log_history.specs.Table.{OpenStream, is_named, last_after_due, storing, with_stored, with_opener, with_mark}
 use Rattle.log_service.specs.Moments.{second_of}
 use Rattle.log_service.specs.Changing.{IsFiling}
-use Rattle.log_service.specs.Planning.{with_files, with_openers}
+use Rattle.log_service.specs.Planning.{with_files, with_openers, files_after, filed_in}
 use Rattle.log_service.specs.PlanningParts.{PlansJoining, PlansMarking, PlansStoring}
+use Rattle.log_service.specs.declared.files.Filed.{Filed}
 use Rattle.log_service.specs.declared.plan.Doing.{Doing}
 use Rattle.log_service.specs.declared.plan.Doing.TheVariants.{Stay, Join, Store, Set}
 use Rattle.log_service.specs.declared.plan.LogPlan.{LogPlan}
@@ -49,20 +50,20 @@ stores-nowhere last now name rec streams events plan from events_are nowhere is 
     })
 
 -- where there is one, it is stored there
-pub stores-at : (last now : ℤ) (name : StreamName) (rec : LogRecord) (streams : List OpenStream) (place : ℕ) (read : OpenStream) (taken : ℕ) (stamp : ℤ) (opened : ℕ) (files : List LogFile) (event : StreamEvent) (events : List StreamEvent) (plan : LogPlan) → IsFirst (is_named name) streams place → read ≡ get_or streams place read → taken ≡ read.state.taken + 1 → opened ≤ taken + 1 → IsFiling last now rec read.state stamp opened files → event ≡ storing (unsigned_abs last) (second_of now) rec read.state → events ≡ event ∷ [] → plan ≡ accepted_plan events stamp (Store place taken opened files) → PlansStoring last now name rec streams plan
-stores-at last now name rec streams place read taken stamp opened files event events plan first is taken_is few filing event_is events_are plan_is =
+pub stores-at : (last now : ℤ) (name : StreamName) (rec : LogRecord) (streams : List OpenStream) (place : ℕ) (read : OpenStream) (taken : ℕ) (stamp : ℤ) (opened : ℕ) (filed : Filed) (event : StreamEvent) (events : List StreamEvent) (plan : LogPlan) → IsFirst (is_named name) streams place → read ≡ get_or streams place read → taken ≡ read.state.taken + 1 → opened ≤ taken + 1 → IsFiling last now rec read.state stamp opened (files_after filed read.state.files) → event ≡ storing (unsigned_abs last) (second_of now) rec read.state → events ≡ event ∷ [] → plan ≡ accepted_plan events stamp (Store place taken opened filed) → PlansStoring last now name rec streams plan
+stores-at last now name rec streams place read taken stamp opened filed event events plan first is taken_is few filing event_is events_are plan_is =
     let found = found-at (is_named name) streams place read first is in
     let after = state_after (storing (unsigned_abs last) (second_of now) rec read.state) in
-    let new : with_files taken opened files read ≡ with_stored (unsigned_abs last) (second_of now) rec read =
-    ap (λ n. with_files n opened files read) taken_is ∙ ap (λ o. with_files (read.state.taken + 1) o files read) filing.opened_is
+    let new : filed_in taken opened filed read ≡ with_stored (unsigned_abs last) (second_of now) rec read =
+    ap (λ n. filed_in n opened filed read) taken_is ∙ ap (λ o. filed_in (read.state.taken + 1) o filed read) filing.opened_is
     ∙ ap (λ (these : List LogFile). with_files (read.state.taken + 1) after.opened these read) filing.files_are in
     subst (PlansStoring last now name rec streams) (sym plan_is) (record {
       sound = record { ok = refl; passed = refl; unmarked = refl; users = λ users. refl; can = (first.within, few) };
       stores = record {
         stamp = filing.stamp_is ∙ ap (λ one. pos (last_of (unsigned_abs last) (second_of now) rec one)) (sym found);
         events = events_are ∙ ap (λ one. one ∷ []) event_is ∙ ap (events_of (unsigned_abs last) (second_of now) rec) (sym found);
-        streams = sym (set-change_at (with_files taken opened files) streams place read is first.within)
-            ∙ changed-at (is_named name) streams place read (with_files taken opened files read) (with_stored (unsigned_abs last) (second_of now) rec) first is new;
+        streams = sym (set-change_at (filed_in taken opened filed) streams place read is first.within)
+            ∙ changed-at (is_named name) streams place read (filed_in taken opened filed read) (with_stored (unsigned_abs last) (second_of now) rec) first is new;
       };
       room = λ spare. tt;
     })

@@ -7,10 +7,13 @@ use Rattle.client_set.specs.Edits.{change_at}
 use Rattle.client_set.specs.Rising.{without}
 use Rattle.stream_config.specs.declared.mark.Mark.{Mark}
 use Rattle.stream_config.specs.declared.state.LogFile.{LogFile}
+use Rattle.stream_config.specs.Events.{last_with}
 use Rattle.log_history.specs.Changes.{LogChange}
 use Rattle.log_history.specs.Table.{OpenStream, LogTable, with_mark, has_nobody, kept_streams, closed_streams, left_streams}
 use Rattle.log_service.specs.State.{Came, Left, Tells, AreFew, table_with}
 use Rattle.log_service.specs.declared.step.Step.{Step}
+use Rattle.log_service.specs.declared.files.Filed.{Filed}
+use Rattle.log_service.specs.declared.files.Filed.TheVariants.{Grown, Begun}
 use Rattle.log_service.specs.declared.plan.Doing.{Doing}
 use Rattle.log_service.specs.declared.plan.Doing.TheVariants.{Stay, Begin, Join, Make, Store, Set, Leave, End}
 use Rattle.log_service.specs.declared.plan.LogPlan.{LogPlan}
@@ -29,13 +32,21 @@ with_files taken opened files stream = record {
   mark = stream.mark;
 }
 
+-- the files once the last one ends there, or once another is begun
+abbrev pub files_after : Filed → List LogFile → List LogFile
+files_after (Grown end room) files = last_with 0 end files
+files_after (Begun begun) files = begun
+
+abbrev pub filed_in : (taken opened : ℕ) → Filed → OpenStream → OpenStream
+filed_in taken opened filed stream = with_files taken opened (files_after filed stream.state.files) stream
+
 -- the living streams once that is done
 abbrev pub streams_after : Doing → List OpenStream → List OpenStream
 streams_after Stay streams = streams
 streams_after (Begin users) streams = streams
 streams_after (Join place openers) streams = change_at (with_openers openers) streams place
 streams_after (Make stream) streams = streams ++ stream ∷ []
-streams_after (Store place taken opened files) streams = change_at (with_files taken opened files) streams place
+streams_after (Store place taken opened filed) streams = change_at (filed_in taken opened filed) streams place
 streams_after (Set place mark) streams = change_at (with_mark mark) streams place
 streams_after (Leave name client) streams = kept_streams (closed_streams client name streams)
 streams_after (End client) streams = kept_streams (left_streams client streams)
@@ -49,7 +60,7 @@ users_after _ users = users
 -- there is the stream that changes, and no more files were made of it than its records ask for
 abbrev pub CanDo : Doing → List OpenStream → Type 0
 CanDo (Join place openers) streams = place < length streams
-CanDo (Store place taken opened files) streams = (place < length streams) × (opened ≤ taken + 1)
+CanDo (Store place taken opened filed) streams = (place < length streams) × (opened ≤ taken + 1)
 CanDo (Set place mark) streams = place < length streams
 CanDo _ streams = Unit {0}
 

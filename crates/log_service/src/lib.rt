@@ -5,6 +5,7 @@
 mod begin;
 mod files;
 mod filtering;
+mod joined;
 mod law;
 mod live;
 mod plan;

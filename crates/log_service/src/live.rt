@@ -1,5 +1,5 @@
 //! A living stream, as the state keeps it.
-ghost use Rattle.std.specs.Prelude.{◌≡◌, ◌≤ℤ◌, ◌+◌, ◌<◌, ◌≤◌, ℕ, nat_lt, false, pos, unsigned_abs, IsTrue, IfOk};
+ghost use Rattle.std.specs.Prelude.{◌≡◌, ◌≤ℤ◌, ◌+◌, ◌<◌, ◌≤◌, ℕ, nat_lt, false, pos, unsigned_abs, IsTrue, IfOk, OnOk, OnErr};
 ghost use Rattle.client_set.specs.Members.{has};
 ghost use Rattle.client_set.specs.Rising.{put};
 ghost use Rattle.format_expr.specs.Reading.{pieces_of};
@@ -11,14 +11,15 @@ ghost use Rattle.stream_config.specs.Events.{current_file};
 ghost use Rattle.record_print.specs.Lengths.{HasParts, HasNotifiedParts};
 ghost use Rattle.record_print.specs.declared.record.LogRecord.{LogRecord as RecordOf};
 ghost use Rattle.log_history.specs.Answers.{lacks_room};
-ghost use Rattle.log_history.specs.Table.{OpenStream, is_named, with_mark, without_opener, has_nobody, new_state, length_in, storing};
+ghost use Rattle.log_history.specs.Table.{OpenStream, is_named, with_mark, with_opener, without_opener, has_nobody, new_state, length_in, storing};
 ghost use Rattle.log_history.specs.KeptAnswers.{is_of_application};
 ghost use Rattle.log_service.specs.Moments.{IsMoment, second_of};
 ghost use Rattle.log_service.specs.Changing.{IsFiling};
 ghost use Rattle.log_service.specs.State.{made_event};
-ghost use Rattle.log_service.specs.Planning.{with_openers, with_files};
+ghost use Rattle.log_service.specs.Planning.{with_openers, files_after, filed_in};
 
-use crate::files::{due_stamps, files_stored, last_after, opened_after};
+use crate::files::{Filed, due_stamps, files_stored, last_after, opened_after, stand_so};
+use crate::joined::with_client;
 use ais_values::{Duplicate, Name, Seq, Text};
 use client_set::ClientSet;
 use format_expr::{Expr, ExprAnswer, parse_expr};
@@ -33,12 +34,26 @@ use stream_config::{
 };
 
 /// A living stream, the clients that have it open, its mark, and its expression, which was read when the stream was made.
-#[derive(Drop)]
 pub(crate) struct LiveStream {
     state: StreamState,
     openers: ClientSet,
     mark: Mark,
     expr: Expr,
+}
+
+// Written out, as a derived one is proved anew in each crate that lets such a value go.
+impl Drop for LiveStream {
+    fn drop(self) {
+        let LiveStream {
+            state,
+            openers,
+            mark: _,
+            expr,
+        } = self;
+        drop(state);
+        drop(openers);
+        drop(expr);
+    }
 }
 
 impl Model for LiveStream {
@@ -250,9 +265,7 @@ impl LiveStream {
     pub(crate) fn joined(&self, alloc: Global, client: u16) -> Result<ClientSet, AllocError>
         ensures { IfOk result (λ openers. openers ≡ put nat_lt client self.now.openers) }
     {
-        let mut openers = self.openers.copy(alloc)?;
-        openers.insert(client)?;
-        Ok(openers)
+        with_client(alloc, &self.openers, client)
     }
 
     /// These clients have the stream open.
@@ -260,6 +273,14 @@ impl LiveStream {
         ensures { self.new ≡ with_openers openers self.old }
     {
         self.openers = openers;
+    }
+
+    /// A client opens the stream. On an error nothing changes.
+    pub(crate) fn join(&mut self, client: u16) -> Result<(), AllocError>
+        ensures ok { OnOk result (self.new ≡ with_opener client self.old) }
+        ensures err { OnErr result (self.new ≡ self.old) }
+    {
+        self.openers.insert(client)
     }
 
     /// A client closes the stream.
@@ -323,36 +344,37 @@ impl LiveStream {
         })
     }
 
-    /// The last stamp, how many files were made and those that stand, once a record of so many bytes is stored.
+    /// The last stamp, how many files were made and how they stand, once a record of so many bytes is stored.
     pub(crate) fn filing(
         &self,
         alloc: Global,
         len: u32,
         last: i64,
         now: i64,
-    ) -> Result<(i64, u32, Seq<LogFile>), AllocError>
+    ) -> Result<(i64, u32, Filed), AllocError>
         requires moment { IsMoment last now }
         requires length { len ≤ 16384 }
         requires numbers { self.now.state.taken < 4294967294 }
         requires room { lacks_room self.now.state.attrs (current_file self.now.state.files).bytes
             len ≡ false }
         ensures filing { IfOk result (λ filed. (rec : RecordOf) → len ≡ length_in self.now.state rec
-            → IsFiling last now rec self.now.state filed.0 filed.1 filed.2) }
+            → IsFiling last now rec self.now.state filed.0 filed.1
+            (files_after filed.2 self.now.state.files)) }
         ensures few { IfOk result (λ filed. filed.1 ≤ self.now.state.taken + 2) }
     {
         let stamps = due_stamps(&self.state, len, last, now);
-        let files = files_stored(alloc, &self.state, len, stamps)?;
+        let filed = files_stored(alloc, &self.state, len, stamps)?;
         let opened = opened_after(self.state.opened, stamps);
-        Ok((last_after(last, stamps), opened, files))
+        Ok((last_after(last, stamps), opened, filed))
     }
 
-    /// So many records are taken, so many files were made, and these stand.
-    pub(crate) fn put_files(&mut self, taken: u32, opened: u32, files: Seq<LogFile>)
+    /// So many records are taken, so many files were made, and they stand so.
+    pub(crate) fn put_files(&mut self, taken: u32, opened: u32, filed: Filed)
         requires { opened ≤ taken + 1 }
-        ensures { self.new ≡ with_files taken opened files self.old }
+        ensures { self.new ≡ filed_in taken opened filed self.old }
     {
         self.state.taken = taken;
         self.state.opened = opened;
-        self.state.files = files;
+        stand_so(&mut self.state.files, filed);
     }
 }

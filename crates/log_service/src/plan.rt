@@ -2,15 +2,16 @@
 ghost use Rattle.std.specs.Prelude.{◌≡◌, ◌<◌, ◌≤◌, ◌+◌, ◌-◌, ◌++◌, ◌∷◌, [], true, false, Some, None, vec_len, vec_capacity};
 ghost use Rattle.client_set.specs.Edits.{change_at};
 ghost use Rattle.log_history.specs.Table.{with_mark};
-ghost use Rattle.log_service.specs.Planning.{step_of, marked_plan, with_openers, with_files, CanDo, IsRoomFor, streams_after, users_after};
+ghost use Rattle.log_service.specs.Planning.{step_of, marked_plan, with_openers, filed_in, CanDo, IsRoomFor, streams_after, users_after};
 
+use crate::files::Filed;
 use crate::live::LiveStream;
 use crate::step::Step;
 use crate::streams::{drop_idle, leave, leave_all};
 use ais_values::{Seq, Status};
 use client_set::ClientSet;
 use std::alloc::Global;
-use stream_config::{LogFile, Mark, StreamEvent, StreamName};
+use stream_config::{Mark, StreamEvent, StreamName};
 
 /// What a call does to the clients that use the service and to the living streams.
 #[derive(Drop)]
@@ -30,12 +31,12 @@ pub(crate) enum Doing {
     Make {
         stream: LiveStream,
     },
-    /// The stream at a place has taken so many records then, so many files were made of it, and these stand.
+    /// The stream at a place has taken so many records then, so many files were made of it, and its files stand so.
     Store {
         place: usize,
         taken: u32,
         opened: u32,
-        files: Seq<LogFile>,
+        filed: Filed,
     },
     /// The stream at a place has this mark then.
     Set {
@@ -142,20 +143,14 @@ fn put_openers(streams: &mut Vec<LiveStream>, place: usize, openers: ClientSet)
     streams[place].put_openers(openers);
 }
 
-/// The stream at a place has taken so many records, so many files were made of it, and these stand.
-fn put_files(
-    streams: &mut Vec<LiveStream>,
-    place: usize,
-    taken: u32,
-    opened: u32,
-    files: Seq<LogFile>,
-)
+/// The stream at a place has taken so many records, so many files were made of it, and its files stand so.
+fn put_files(streams: &mut Vec<LiveStream>, place: usize, taken: u32, opened: u32, filed: Filed)
     requires place { place < vec_len streams.old }
     requires few { opened ≤ taken + 1 }
     ensures { streams.new.items
-        ≡ change_at (with_files taken opened files) streams.old.items place }
+        ≡ change_at (filed_in taken opened filed) streams.old.items place }
 {
-    streams[place].put_files(taken, opened, files);
+    streams[place].put_files(taken, opened, filed);
 }
 
 /// The stream at a place has this mark.
@@ -182,8 +177,8 @@ pub(crate) fn carry_out(streams: &mut Vec<LiveStream>, users: &mut ClientSet, do
             place,
             taken,
             opened,
-            files,
-        } => put_files(streams, place, taken, opened, files),
+            filed,
+        } => put_files(streams, place, taken, opened, filed),
         Doing::Set { place, mark } => put_mark(streams, place, mark),
         Doing::Leave { name, client } => {
             leave(streams, &name, client);

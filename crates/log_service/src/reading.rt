@@ -1,9 +1,9 @@
 //! What stands in the state, and what the storing of a record would be answered.
-ghost use Rattle.std.specs.Prelude.{◌≡◌, ◌↔◌, pos, length, IsTrue, slice_get, option_map};
+ghost use Rattle.std.specs.Prelude.{◌≡◌, ◌↔◌, pos, length, IsTrue, is_some, slice_get, option_map};
 ghost use Rattle.std.specs.Option.{option_copied};
 ghost use Rattle.record_print.specs.Lengths.{HasNotifiedParts};
 ghost use Rattle.record_print.specs.declared.record.LogRecord.{LogRecord as RecordOf};
-ghost use Rattle.log_history.specs.KeptAnswers.{is_filled, store_status};
+ghost use Rattle.log_history.specs.KeptAnswers.{kept_stream, is_filled, store_status};
 ghost use Rattle.log_history.specs.Table.{OpenStream};
 ghost use Rattle.log_service.specs.State.{IsCallTime, HasNumberLeft, stream_of_kind};
 
@@ -91,6 +91,13 @@ impl LogState {
         ensures { result ≡ length self.now.table.streams }
     {
         self.streams.len() as u32
+    }
+
+    /// Whether a stream of this name lives.
+    pub fn is_living(&self, name: &StreamName) -> bool
+        ensures { result ≡ is_some (kept_stream self.now.table.streams name.now) }
+    {
+        streams::stream_of(self.streams.as_slice(), name).is_some()
     }
 
     /// What stands of a living stream, by its place in order of creation, from 0.

@@ -2,10 +2,11 @@
 ghost use Rattle.std.specs.Prelude.{◌≡◌, ◌≤◌, ◌^◌, ℕ, Some, IfOk};
 ghost use Rattle.record_print.specs.Printing.{event_time};
 ghost use Rattle.record_print.specs.Records.{can_write};
-ghost use Rattle.log_history.specs.Times.{filled_time, filled_header, record_at};
+ghost use Rattle.log_history.specs.Times.{filled_header, record_at};
 ghost use Rattle.log_service.specs.State.{stream_of_kind};
 
-use ais_values::{Duplicate, Name, StreamKind, Text, UNKNOWN_TIME};
+use ais_values::{Duplicate, Name, StreamKind, Text};
+use log_history::filled_time;
 use record_print::{Header, LogRecord, check_write};
 use std::alloc::{AllocError, Global};
 use stream_config::StreamName;
@@ -36,13 +37,6 @@ pub(crate) fn read_event(header: &Header)
     if let Header::Ntf { event_time, .. } = header {
         let _event = *event_time;
     }
-}
-
-/// A time, or this moment where it is the unknown one.
-fn filled_time(time: i64, now: i64) -> i64
-    ensures { result ≡ filled_time time now }
-{
-    if time == UNKNOWN_TIME { now } else { time }
 }
 
 /// Copies of both names.

@@ -1,5 +1,5 @@
 //! The state, and what each call answers and makes of it.
-ghost use Rattle.std.specs.Prelude.{◌≡◌, ◌≢◌, ◌<◌, ◌≤◌, ◌≤ℤ◌, Bool, Option, pos, unsigned_abs, false, Some, None, length, map, IfOk, OnOk, OnErr, IsTrue, []};
+ghost use Rattle.std.specs.Prelude.{◌≡◌, ◌≢◌, ◌<◌, ◌≤◌, ◌≤ℤ◌, ℕ, Bool, Option, pos, unsigned_abs, false, Some, None, length, map, IfOk, OnOk, OnErr, IsTrue, []};
 ghost use Rattle.std.specs.Option.{option_copied};
 ghost use Rattle.client_set.specs.Members.{has};
 ghost use Rattle.stream_config.specs.AttributeTests.{passes_attrs};
@@ -11,9 +11,10 @@ ghost use Rattle.record_print.specs.declared.record.LogRecord.{LogRecord as Reco
 ghost use Rattle.log_history.specs.Names.{is_application};
 ghost use Rattle.log_history.specs.Chronicle.{LogSetup};
 ghost use Rattle.stream_config.specs.declared.mark.Mark.{Mark as MarkOf};
-ghost use Rattle.log_history.specs.Changes.{LogChange, Began, Stored, Closed, Ended};
+ghost use Rattle.log_history.specs.Changes.{LogChange, Began, Opened, Stored, Closed, Ended};
 ghost use Rattle.log_history.specs.Times.{filled_time, filled_header, record_at};
 ghost use Rattle.log_history.specs.Marks.{is_filtered};
+ghost use Rattle.log_history.specs.Table.{table_after};
 ghost use Rattle.log_history.specs.KeptAnswers.{begin_status, open_status, write_status, close_status, end_status, store_status, has_opener, is_filled, kept_mark, is_crowd, kept_attrs};
 ghost use Rattle.log_service.specs.Moments.{IsTimeOfCall, second_of};
 ghost use Rattle.log_service.specs.State.{IsCallTime, HasNumberLeft, Made, Left, Tells, stream_of_kind, IsNotified, BeginsWith, CanBeginWith, HasBegun, table_with, joined_streams, IsSoundTable};
@@ -22,6 +23,7 @@ ghost use Rattle.log_service.specs.Calls.{filters_in, mark_told, PlansOpening, P
 ghost use Rattle.log_service.specs.Changing.{making_status};
 ghost use Rattle.log_service.specs.Planning.{step_of, planned, CanCommit, HasRoom, Plans};
 
+use crate::joined::with_client;
 use crate::live::LiveStream;
 use crate::plan::{Doing, LogPlan, carry_out};
 use crate::records::{may_write, read_event, stream_of_kind};
@@ -54,11 +56,23 @@ fn is_application(name: &StreamName) -> bool
 
 /// The last stamp, the clients that use the service, and the living streams in order of creation, each with the
 /// clients that have it open and its mark. Contracts see these, and for how many streams more there is room.
-#[derive(Drop)]
 pub struct LogState {
     pub(crate) last: i64,
     pub(crate) users: ClientSet,
     pub(crate) streams: Vec<LiveStream>,
+}
+
+// Written out, as a derived one is proved anew in each crate that lets such a value go.
+impl Drop for LogState {
+    fn drop(self) {
+        let LogState {
+            last: _,
+            users,
+            streams,
+        } = self;
+        drop(users);
+        drop(streams);
+    }
 }
 
 impl Model for LogState {
@@ -176,15 +190,14 @@ impl LogState {
         if status != Status::Ok {
             return Ok(LogPlan::refused(alloc, self.last, status));
         }
-        let mut users = self.users.copy(alloc)?;
-        users.insert(client)?;
+        let users = with_client(alloc, &self.users, client)?;
         Ok(LogPlan::accepted(Seq::new(alloc), self.last, Doing::Begin { users }))
     }
 
     /// Begins a client's use of the service (the library call for initialisation). `NoResources` exactly where it
     /// uses the service already. On an error, and with another answer than ok, nothing changes; an error comes only
     /// where the answer would be ok.
-    pub fn init(&mut self, alloc: Global, client: u16, now: i64) -> Result<Step, AllocError>
+    pub fn init(&mut self, alloc: Global, client: u16, _now: i64) -> Result<Step, AllocError>
         ensures status { IfOk result (λ step. step.status ≡ begin_status self.old.table client) }
         ensures told { IfOk result (Tells false None) }
         ensures ok { IfOk result (λ step. step.status ≡ Status.Ok
@@ -194,10 +207,12 @@ impl LogState {
         ensures err { OnErr result (self.new.table ≡ self.old.table) }
         ensures memory { OnErr result (begin_status self.old.table client ≡ Status.Ok) }
     {
-        match self.plan_init(alloc, client, now) {
-            Ok(plan) => Ok(self.carry(plan)),
-            Err(error) => Err(error),
+        let status = self.begin_status(client);
+        if status != Status::Ok {
+            return Ok(Step::refused(alloc, status));
         }
+        self.users.insert(client)?;
+        Ok(Step::done(Seq::new(alloc)))
     }
 
     /// What decides an end of use: `BadHandle` where the client does not use the service, and else ok.
@@ -439,6 +454,23 @@ impl LogState {
         Ok(plan)
     }
 
+    /// Opens a stream that lives, for a client that uses the service. On an error nothing changes.
+    fn join(&mut self, alloc: Global, client: u16, name: &StreamName) -> Result<Step, AllocError>
+        ensures step { IfOk result (λ step. step ≡ record {
+          status = Status.Ok;
+          filtered = false;
+          mark = Some (kept_mark self.old.table.streams name.now);
+          events = [];
+        }) }
+        ensures now { OnOk result ((second number : ℕ) → self.new.table
+            ≡ table_after (Opened client name.now None second number) self.old.table) }
+        ensures err { OnErr result (self.new.table ≡ self.old.table) }
+    {
+        let mark = self.mark_of(name);
+        streams::join(&mut self.streams, name, client)?;
+        Ok(Step::joined(alloc, mark))
+    }
+
     /// Opens a stream for a client, by the entry of this number; with attributes it makes an application's stream
     /// that does not live yet, which lets all severities pass. An ok call tells the stream's mark.
     /// The answer is that of the first of these that holds: `BadHandle`, the client does not use the service;
@@ -470,6 +502,10 @@ impl LogState {
         ensures memory { OnErr result (open_status self.old.table client name.now
             (option_copied create.entry) ≡ Status.Ok) }
     {
+        if self.open_status(client, name, create) == Status::Ok && self.is_living(name) {
+            let step = self.join(alloc, client, name)?;
+            return Ok(step);
+        }
         match self.plan_open_stream(alloc, client, name, create, now, number) {
             Ok(plan) => Ok(self.carry(plan)),
             Err(error) => Err(error),

@@ -53,6 +53,23 @@ impl Step {
         }
     }
 
+    /// The step of an open that only adds a client: it tells the stream's mark.
+    pub(crate) fn joined(alloc: Global, mark: Mark) -> Step
+        ensures { result ≡ record {
+          status = Status.Ok;
+          filtered = false;
+          mark = Some mark;
+          events = [];
+        } }
+    {
+        Step {
+            status: Status::Ok,
+            filtered: false,
+            mark: Some(mark),
+            events: Seq::new(alloc),
+        }
+    }
+
     /// The step of a write whose record was filtered.
     pub(crate) fn filtered(alloc: Global, mark: Mark) -> Step
         ensures { result ≡ record {

@@ -1,10 +1,11 @@
 //! The living streams of the state, in order of creation.
-ghost use Rattle.std.specs.Prelude.{◌≡◌, ◌≤◌, ◌≤ℤ◌, ◌<◌, ◌++◌, ◌∷◌, ℕ, pos, unsigned_abs, length, false, [], IsTrue, IfOk, OnOk};
+ghost use Rattle.std.specs.Prelude.{◌≡◌, ◌≤◌, ◌≤ℤ◌, ◌<◌, ◌++◌, ◌∷◌, ℕ, pos, unsigned_abs, length, false, [], IsTrue, IfOk, OnOk, OnErr};
 ghost use Rattle.std.specs.Option.{option_copied, ForSome};
 ghost use Rattle.std.specs.List.{find, position, list_any, count_by};
 ghost use Rattle.stream_config.specs.Attributes.{kind_of, PassesAttrs};
 ghost use Rattle.record_print.specs.Printing.{can_print};
-ghost use Rattle.log_history.specs.Table.{OpenStream, is_named, has_nobody, kept_streams, closed_streams, left_streams, opened_stream};
+ghost use Rattle.log_history.specs.Table.{OpenStream, is_named, with_opener, has_nobody, kept_streams, closed_streams, left_streams, opened_stream};
+ghost use Rattle.log_history.specs.Firsts.{change_first};
 ghost use Rattle.log_history.specs.Times.{record_at};
 ghost use Rattle.log_history.specs.KeptAnswers.{kept_stream, kept_mark, is_of_application, has_place, is_filled, making_in};
 ghost use Rattle.log_service.specs.Moments.{IsTimeOfCall, IsMoment, second_of};
@@ -243,7 +244,7 @@ pub(crate) fn storing_plan(
     let len = stream.length_of(rec);
     let event = stream.storing(alloc, len, last, rec, now)?;
     let events = alone(alloc, event)?;
-    let (stamped, opened, files) = stream.filing(alloc, len, last, now)?;
+    let (stamped, opened, filed) = stream.filing(alloc, len, last, now)?;
     Ok(LogPlan::accepted(
         events,
         stamped,
@@ -251,7 +252,7 @@ pub(crate) fn storing_plan(
             place,
             taken,
             opened,
-            files,
+            filed,
         },
     ))
 }
@@ -326,6 +327,22 @@ pub(crate) fn closing(
     };
     let stamped = add_end(alloc, &mut events, stream, client, last, now)?;
     Ok((stamped, events))
+}
+
+/// A client opens the stream of this name; where there is none, nothing changes. On an error nothing changes.
+pub(crate) fn join(
+    streams: &mut Vec<LiveStream>,
+    name: &StreamName,
+    client: u16,
+) -> Result<(), AllocError>
+    ensures ok { OnOk result (streams.new.items
+        ≡ change_first (is_named name.now) (with_opener client) streams.old.items) }
+    ensures err { OnErr result (streams.new.items ≡ streams.old.items) }
+{
+    if let Some(place) = place_of(streams.as_slice(), name) {
+        streams[place].join(client)?;
+    }
+    Ok(())
 }
 
 /// A client closes the stream of this name.

@@ -10,7 +10,7 @@ use format_expr::has_notified;
 use std::alloc::{AllocError, Global};
 
 /// The header of a log record.
-#[derive(Drop, PartialEq)]
+#[derive(PartialEq)]
 pub enum Header {
     /// Of records of the alarm and the notification stream.
     Ntf {
@@ -29,12 +29,49 @@ pub enum Header {
     },
 }
 
+// Written out, as a derived one is proved anew in each crate that lets such a value go.
+impl Drop for Header {
+    fn drop(self) {
+        match self {
+            Header::Ntf {
+                id: _,
+                event_type: _,
+                object,
+                notifier,
+                class: _,
+                event_time: _,
+            } => {
+                drop(object);
+                drop(notifier);
+            }
+            Header::Generic {
+                class: _,
+                user,
+                severity: _,
+            } => drop(user),
+        }
+    }
+}
+
 /// A log record. Times are nanoseconds since 1970-01-01T00:00:00 UTC.
-#[derive(Drop, PartialEq)]
+#[derive(PartialEq)]
 pub struct LogRecord {
     pub time: i64,
     pub header: Header,
     pub body: Text,
+}
+
+// Written out, as a derived one is proved anew in each crate that lets such a value go.
+impl Drop for LogRecord {
+    fn drop(self) {
+        let LogRecord {
+            time: _,
+            header,
+            body,
+        } = self;
+        drop(header);
+        drop(body);
+    }
 }
 
 impl Duplicate for Header {

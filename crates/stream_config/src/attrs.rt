@@ -18,7 +18,7 @@ pub enum FullAction {
 }
 
 /// The attributes of a stream. Any values can stand here: `check_attrs` says which a stream may have.
-#[derive(PartialEq, Drop)]
+#[derive(PartialEq)]
 pub struct StreamAttrs {
     /// The first part of the names of its files.
     pub file: Text,
@@ -38,13 +38,44 @@ pub struct StreamAttrs {
     pub expr: Text,
 }
 
+// Written out, as a derived one is proved anew in each crate that lets such a value go.
+impl Drop for StreamAttrs {
+    fn drop(self) {
+        let StreamAttrs {
+            file,
+            path,
+            max_file: _,
+            record_size: _,
+            ha: _,
+            action: _,
+            rotated: _,
+            expr,
+        } = self;
+        drop(file);
+        drop(path);
+        drop(expr);
+    }
+}
+
 /// The name of a stream: one of the three that are well known, or an application's own.
-#[derive(PartialEq, Drop)]
+#[derive(PartialEq)]
 pub enum StreamName {
     Alarm,
     Notification,
     System,
     App { name: Name },
+}
+
+// Written out, as a derived one is proved anew in each crate that lets such a value go.
+impl Drop for StreamName {
+    fn drop(self) {
+        match self {
+            StreamName::Alarm => {}
+            StreamName::Notification => {}
+            StreamName::System => {}
+            StreamName::App { name } => drop(name),
+        }
+    }
 }
 
 impl StreamName {

@@ -13,7 +13,7 @@ pub struct Stamps {
 }
 
 /// One thing that happens to a stream.
-#[derive(PartialEq, Drop)]
+#[derive(PartialEq)]
 pub enum StreamEvent {
     /// The stream is made, in this state.
     Made {
@@ -31,6 +31,24 @@ pub enum StreamEvent {
         before: StreamState,
         closed: i64,
     },
+}
+
+// Written out, as a derived one is proved anew in each crate that lets such a value go.
+impl Drop for StreamEvent {
+    fn drop(self) {
+        match self {
+            StreamEvent::Made { state } => drop(state),
+            StreamEvent::Stored {
+                before,
+                bytes,
+                stamps: _,
+            } => {
+                drop(before);
+                drop(bytes);
+            }
+            StreamEvent::Ended { before, closed: _ } => drop(before),
+        }
+    }
 }
 
 impl Duplicate for Stamps {

@@ -17,7 +17,7 @@ pub struct LogFile {
 }
 
 /// A stream as it stands.
-#[derive(PartialEq, Drop)]
+#[derive(PartialEq)]
 pub struct StreamState {
     pub name: StreamName,
     pub attrs: StreamAttrs,
@@ -27,6 +27,22 @@ pub struct StreamState {
     pub opened: u32,
     /// Its files that stand, from the oldest to the current one.
     pub files: Seq<LogFile>,
+}
+
+// Written out, as a derived one is proved anew in each crate that lets such a value go.
+impl Drop for StreamState {
+    fn drop(self) {
+        let StreamState {
+            name,
+            attrs,
+            taken: _,
+            opened: _,
+            files,
+        } = self;
+        drop(name);
+        drop(attrs);
+        drop(files);
+    }
 }
 
 impl Duplicate for LogFile {

@@ -5,7 +5,6 @@ use ais_values::{Duplicate, Text};
 use std::alloc::{AllocError, Global};
 
 /// One piece of work on the files of a disk, which is a fixed row of device calls.
-#[derive(Drop)]
 pub enum Deed {
     /// A whole file, made anew: `create`, `write_at` at 0, `sync`.
     Put { name: Text, bytes: Text },
@@ -17,6 +16,28 @@ pub enum Deed {
     Rename { from: Text, to: Text },
     /// A file taken away: `remove`.
     Remove { name: Text },
+}
+
+// Written out, as a derived one is proved anew in each crate that lets such a value go.
+impl Drop for Deed {
+    fn drop(self) {
+        match self {
+            Deed::Put { name, bytes } => {
+                drop(name);
+                drop(bytes);
+            }
+            Deed::Create { name } => drop(name),
+            Deed::Write { name, at: _, bytes } => {
+                drop(name);
+                drop(bytes);
+            }
+            Deed::Rename { from, to } => {
+                drop(from);
+                drop(to);
+            }
+            Deed::Remove { name } => drop(name),
+        }
+    }
 }
 
 impl Duplicate for Deed {

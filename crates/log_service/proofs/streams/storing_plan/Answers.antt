@@ -63,6 +63,6 @@ returns c =
     let read = c.index-streams-place.result in
     let filing = simp to_z-of_z at (c.in_ok-stamped.ensures.filing c.args.rec.now c.length_of-len.ensures.length) in
     let stamped_fits = due-fits c.args.last c.args.now c.args.rec.now read.state c.in_ok-stamped.stamped c.requires.moment filing.stamp_is in
-    stores-at c.args.last c.args.now c.args.name.now c.args.rec.now items c.in-Some.place read (c.state.result.now.taken + 1) c.in_ok-stamped.stamped c.in_ok-stamped.opened c.in_ok-stamped.files c.in_ok-event.event c.in_ok-events.events c.accepted-2.result
+    stores-at c.args.last c.args.now c.args.name.now c.args.rec.now items c.in-Some.place read (c.state.result.now.taken + 1) c.in_ok-stamped.stamped c.in_ok-stamped.opened c.in_ok-stamped.filed c.in_ok-event.event c.in_ok-events.events c.accepted-2.result
     (first-is (is_named c.args.name.now) items c.in-Some.place (sym c.place_of.ensures ∙ c.in-Some.is)) c.index-streams-place.is
     (ap (λ (state : StreamState). state.taken + 1) c.state.ensures) (omega (arith, c.in_ok-stamped.ensures.few, ap (λ (state : StreamState). state.taken) c.state.ensures)) filing (simp to_z-of_z at c.in_ok-event.ensures) c.in_ok-events.ensures (simp to_z-of_z at c.accepted-2.ensures)

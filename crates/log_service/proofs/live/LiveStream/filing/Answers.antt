@@ -3,6 +3,7 @@ use Rattle.std.proofs.lemmas.Int.{to_z-of_z}
 use Rattle.log_history.specs.Table.{OpenStream, length_in}
 use Rattle.stream_config.specs.Events.{current_file}
 use Rattle.log_history.specs.Answers.{lacks_room}
+use Rattle.log_service.specs.Planning.{files_after}
 use Rattle.log_service.proofs.StreamLemmas.{filing-is, room-fits}
 use Rattle.log_service.proofs.live.LiveStream.filing.Goals as goal
 
@@ -14,7 +15,7 @@ returns-clause-filing c = λ rec len_is.
     filing-is c.self.inside c.args.self.now c.args.last c.args.now rec c.args.len c.due_stamps-stamps.result _ _ _
     c.self.view_is c.requires.moment.last_from inner
     (simp to_z-of_z at (c.due_stamps-stamps.ensures.due rec inner))
-    c.in_ok-files.ensures
+    (ap (λ (stream : OpenStream). files_after c.in_ok-filed.filed stream.state.files) (sym c.self.view_is) ∙ c.in_ok-filed.ensures)
     (c.opened_after-opened.ensures)
     (to_z-of_z w64 c.last_after.result (record { sfits = c.last_after.type_inv }) ∙ (simp to_z-of_z at c.last_after.ensures))
 
