@@ -9,9 +9,16 @@ use std::alloc::{AllocError, Global};
 use std::marker::Model;
 
 /// A set of clients by their numbers. Contracts see the rising list of them.
-#[derive(Drop)]
 pub struct ClientSet {
     clients: Vec<u16>,
+}
+
+// Written out, as a derived one is proved anew in each crate that lets such a value go.
+impl Drop for ClientSet {
+    fn drop(self) {
+        let ClientSet { clients } = self;
+        drop(clients);
+    }
 }
 
 impl Model for ClientSet {

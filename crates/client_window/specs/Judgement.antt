@@ -1,5 +1,6 @@
 -- Words of public clauses: what a call is, by its number and all replies that were ever taken, the newest first.
-use Rattle.std.specs.Prelude.{◌≡◌, ℕ, ◌+◌, ◌-◌, ◌<◌, ◌≤◌, ◌==◌, if◌then◌else◌, List, [], ◌∷◌, length, Option, Some, None}
+use Rattle.std.specs.Prelude.{◌≡◌, ℕ, ◌+◌, ◌-◌, ◌<◌, ◌≤◌, ◌==◌}
+use Rattle.std.specs.Prelude.{if◌then◌else◌, List, [], ◌∷◌, length, Option, Some, None}
 use Rattle.client_window.specs.declared.judged.Judged.{Judged}
 use Rattle.client_window.specs.declared.judged.Judged.TheVariants.{New, Repeat, Old, Ahead}
 

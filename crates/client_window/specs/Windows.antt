@@ -1,5 +1,6 @@
 -- Words of public clauses: what is kept of the calls of one client, by all replies that were ever taken, the newest first. The first call has number 1.
-use Rattle.std.specs.Prelude.{◌≡◌, ℕ, ◌+◌, ◌-◌, ◌≤◌, ◌==◌, nat_le, if◌then◌else◌, min, List, length, take, reverse, Option, Some, None}
+use Rattle.std.specs.Prelude.{◌≡◌, ℕ, ◌+◌, ◌-◌, ◌≤◌, ◌==◌, nat_le, if◌then◌else◌}
+use Rattle.std.specs.Prelude.{min, List, length, take, reverse, Option, Some, None}
 
 -- the number of the next call, and the last replies, the newest first
 pub record Kept (R : Type 0) : Type 0 where

@@ -12,4 +12,5 @@ pub mod HistoryEvents
 pub mod StepLaws
 pub mod FilesLaws
 pub mod RecordLaws
+pub mod MomentLaws
 mod Rows

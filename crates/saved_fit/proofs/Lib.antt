@@ -3,3 +3,4 @@ pub mod RisingLaws
 pub mod FileLaws
 pub mod FillingLaws
 pub mod SubLaws
+pub mod WindowLaws

@@ -1,7 +1,6 @@
 //! The stored alarms of a value.
 ghost use Rattle.std.specs.Prelude.{◌≡◌, ◌↔◌, IsTrue, MatchOption, slice_get};
 ghost use Rattle.std.specs.List.{AllByRecursion};
-ghost use Rattle.alarm_view.specs.Alarms.{IsAlarm};
 ghost use Rattle.client_set.specs.Rising.{IsRising};
 ghost use Rattle.stream_config.specs.Attributes.{IsSized};
 ghost use Rattle.calls.specs.declared.saved.SavedStream.{SavedStream as StreamOf};
@@ -10,15 +9,9 @@ ghost use Rattle.plain_service.specs.Fitness.{IsFitStream, IsStanding, IsFitAlar
 use crate::judging::{Judged, all_fit};
 use crate::rising::{are_rising, ids_rise};
 use calls::{Saved, SavedAlarm};
-use ntf_types::{Body, check_notification};
+use ntf_service::is_alarm;
+use ntf_types::check_notification;
 use stream_config::{StreamState, first_standing};
-
-/// Whether a notification is an alarm or a security alarm.
-fn is_alarm(body: &Body) -> bool
-    ensures { IsTrue result ↔ IsAlarm body.now }
-{
-    matches!(body, Body::Alarm { .. } | Body::Security { .. })
-}
 
 /// Whether the record of this number stands in the files of a stream.
 fn is_standing(state: &StreamState, number: u32) -> bool

@@ -1,33 +1,42 @@
 //! The subscriptions and the readers of a value.
-ghost use Rattle.std.specs.Prelude.{◌≡◌, ◌==◌, ◌<◌, ◌≤◌, ◌↔◌, IsTrue, MatchOption, find, option_copied, nat_lt};
+ghost use Rattle.std.specs.Prelude.{◌≡◌, ◌==◌, ◌<◌, ◌≤◌, ◌↔◌, IsTrue, MatchOption, find, length, option_copied, nat_lt};
 ghost use Rattle.std.specs.List.{list_any};
 ghost use Rattle.ais_values.specs.Codes.{all_differ};
 ghost use Rattle.calls.specs.declared.saved.SavedWindow.{SavedWindow as WindowOf};
 ghost use Rattle.client_set.specs.Rising.{IsRising};
-ghost use Rattle.ntf_filters.specs.Fit.{IsFit as IsUsable};
-ghost use Rattle.ntf_history.specs.Rows.{asks_for_alarms};
-ghost use Rattle.plain_service.specs.Fitness.{HasCalled, IsFitSub, is_sub_before, have_one_id, HaveFitSubs, IsFitReader, HaveFitReaders};
-ghost use Rattle.saved_fit.specs.Asking.{IsFull, HasNumbers};
+ghost use Rattle.plain_service.specs.Fitness.{HasCalled, IsFitSub, is_sub_before, have_one_id, HaveFitWindows, HaveFitSubs, IsFitReader, HaveFitReaders};
+ghost use Rattle.saved_fit.specs.Asking.{clients_of, IsCutAt, IsFull, HasNumbers};
 
 use crate::clients::{are_clients, are_readers_of_clients, is_among};
 use crate::judging::{Judged, all_fit};
 use crate::rising::are_rising;
 use calls::{Saved, SavedReader, SavedSub, SavedWindow};
-use ntf_filters::{FilterSet, check_filters};
+use ntf_service::{asks_for_alarms, is_usable};
 
-/// Whether filters may be used.
-fn is_usable(filters: &FilterSet) -> bool
-    ensures { IsTrue result ↔ IsUsable filters.now }
+/// How many windows stand before that of a client, by halving.
+fn count_below(windows: &[SavedWindow], client: u16) -> usize
+    requires { IsRising nat_lt (clients_of windows.now) }
+    ensures bound { result ≤ length windows.now }
+    ensures cut { IsCutAt client result windows.now }
 {
-    check_filters(filters).is_ok()
+    windows.partition_point(|window| window.client < client)
 }
 
-/// The window of a client.
+/// The window of a client, if it has one.
 fn window_of(windows: &[SavedWindow], client: u16) -> Option<&SavedWindow>
+    requires { IsRising nat_lt (clients_of windows.now) }
     ensures { option_copied result ≡ find (λ (window : WindowOf). window.client == client)
         windows.now }
 {
-    windows.iter().find(|window| window.client == client)
+    let place = count_below(windows, client);
+    if place >= windows.len() {
+        return None;
+    }
+    let window = &windows[place];
+    if window.client != client {
+        return None;
+    }
+    Some(window)
 }
 
 /// Whether a window tells of a call of this number.
@@ -41,8 +50,9 @@ fn tells_of(window: Option<&SavedWindow>, number: u32) -> bool
     }
 }
 
-/// Whether the client made a call of this number.
+/// Whether the client made a call of this number, of a value whose windows are those of rising clients.
 fn has_called(saved: &Saved, client: u16, number: u32) -> bool
+    requires { IsRising nat_lt (clients_of saved.now.windows) }
     ensures { IsTrue result ↔ HasCalled saved.now client number }
 {
     tells_of(window_of(saved.windows.as_slice(), client), number)
@@ -64,8 +74,9 @@ fn has_numbers(number: u64, capacity: u32, sub: &SavedSub) -> bool
     sub.first >= 1 && held <= u64::from(capacity) && u64::from(sub.first) + held <= number + 1
 }
 
-/// Whether a subscription is fit, of a value whose users rise and whose entries are not too many.
+/// Whether a subscription is fit, of a value whose windows and users rise and whose entries are not too many.
 fn is_fit_sub(saved: &Saved, sub: &SavedSub) -> bool
+    requires windows { IsRising nat_lt (clients_of saved.now.windows) }
     requires users { IsRising nat_lt saved.now.ntf_users }
     requires number { saved.now.number ≤ 4000000000 }
     ensures { IsTrue result ↔ IsFitSub saved.now sub.now }
@@ -82,9 +93,10 @@ impl Judged for SavedSub {
     ghost use Rattle.calls.specs.declared.saved.Saved.{Saved as SavedOf};
     ghost use Rattle.client_set.specs.Rising.{IsRising};
     ghost use Rattle.plain_service.specs.Fitness.{IsFitSub};
+    ghost use Rattle.saved_fit.specs.Asking.{clients_of};
 
     ghost known = { λ (saved : SavedOf). IsRising nat_lt saved.ntf_users
-        × (saved.number ≤ 4000000000) };
+        × (saved.number ≤ 4000000000) × IsRising nat_lt (clients_of saved.windows) };
 
     ghost fits = { IsFitSub };
 
@@ -126,10 +138,11 @@ fn stand_in_order(subs: &[SavedSub]) -> bool
     are_rising(subs)
 }
 
-/// Whether the subscriptions of a value are fit, whose entries are not too many. The ids are compared in
-/// pairs only where there are 64 at most.
+/// Whether the subscriptions of a value are fit, whose windows are fit and whose entries are not too many. The ids
+/// are compared in pairs only where there are 64 at most.
 pub(crate) fn have_fit_subs(saved: &Saved) -> bool
-    requires { saved.now.number ≤ 4000000000 }
+    requires number { saved.now.number ≤ 4000000000 }
+    requires windows { HaveFitWindows saved.now }
     ensures { IsTrue result ↔ HaveFitSubs saved.now }
 {
     let subs = saved.subs.as_slice();
@@ -138,13 +151,6 @@ pub(crate) fn have_fit_subs(saved: &Saved) -> bool
         && subs.len() <= 64
         && ids_differ(subs)
         && all_fit(saved, subs)
-}
-
-/// Whether filters ask for alarms and security alarms alone.
-fn asks_for_alarms(filters: &FilterSet) -> bool
-    ensures { result ≡ asks_for_alarms filters.now }
-{
-    filters.objects.is_none() && filters.attributes.is_none() && filters.states.is_none()
 }
 
 /// Whether a reader is fit, of a value whose users rise.

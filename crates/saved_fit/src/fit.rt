@@ -38,8 +38,8 @@ fn have_fit_windows(saved: &Saved) -> bool
 
 /// Whether a value is fit to be handed on: counts, windows, streams, the last stamp, stored alarms,
 /// subscriptions and readers each keep their rules. It takes no memory. The time is that of the size of the
-/// value, but for openers, which are looked up among the users by halving; streams are compared in pairs only
-/// where there are 67 at most, and subscriptions where there are 64.
+/// value, but for openers, which are looked up among the users by halving, as is the window of a subscription's client;
+/// streams are compared in pairs only where there are 67 at most, and subscriptions where there are 64.
 pub fn is_fit(saved: &Saved) -> bool
     ensures { IsTrue result ↔ IsFit saved.now }
 {

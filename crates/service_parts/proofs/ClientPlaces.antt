@@ -1,9 +1,12 @@
 -- Where an element stands, or belongs, in a list that rises by its client's number.
-use Rattle.std.proofs.Common.{◌≡◌, ℕ, zero, suc, ◌+◌, ◌<◌, ◌≤◌, ◌==◌, nat_lt, Bool, true, false, cond, List, [], ◌∷◌, length, get_or, set, refl, ap, sym, ◌∙◌, arith}
+use Rattle.std.proofs.Common.{◌≡◌, ℕ, zero, suc, ◌+◌, ◌<◌, ◌≤◌, ◌==◌, nat_lt, Bool, true, false, cond, List, [], ◌∷◌, length, get_or, slice_get, ◌-◌, set, refl, ap, sym, ◌∙◌, arith}
 use Rattle.std.specs.Prelude.{Some, None, is_some, find, insert}
 use Rattle.std.specs.List.{prefix_len}
 use Rattle.std.specs.List.Sorted.{IsNonDecreasingBy, IsPartitionPoint}
+use Rattle.std.proofs.lemmas.Bool.{eqb-true}
 use Rattle.std.proofs.lemmas.Bool.Decides.{nat_tests}
+use Rattle.std.proofs.lemmas.List.{get_or_default}
+use Rattle.std.proofs.lemmas.Option.{get_or_from_slice_get}
 use Rattle.client_set.specs.Rising.{put, ComesFirst, IsRising}
 use Rattle.client_set.proofs.RisingLaws.{IsOrder-nat_lt}
 use Rattle.ais_values.proofs.Basics.{one_more}
@@ -25,6 +28,15 @@ lt-le x y low = grind (arith, nat_tests)
 
 lt-apart : (x y : ℕ) → nat_lt x y ≡ true → (y == x) ≡ false
 lt-apart x y low = grind (arith, nat_tests)
+
+not-under : (x client : ℕ) → client ≤ x → nat_lt x client ≡ false
+not-under x client above = grind (arith, nat_tests)
+
+ge-le : (x client y : ℕ) → x ≡ client → x ≤ y → client ≤ y
+ge-le x client y same order = omega (arith, same, order)
+
+le-under : (x end last client : ℕ) → x ≤ end → end ≡ last → nat_lt last client ≡ true → nat_lt x client ≡ true
+le-under x end last client order same less = grind (arith, nat_tests)
 
 -- the point up to which a test holds
 pub point-is : {X : Type 0} (test : X → Bool) (xs : List X) (i : ℕ) → i ≤ length xs → IsPartitionPoint (λ x. test x ≡ true) (λ x. test x ≡ false) xs i → i ≡ prefix_len test xs
@@ -49,12 +61,46 @@ module _ {X : Type 0} (of : X → ℕ) where
   first-at x (y ∷ ys) zero d first within = lt-le (of x) (of y) first.0
   first-at x (y ∷ ys) (suc j) d first within = first-at x ys j d first.1 (omega arith)
 
+  first-under : (x : X) (xs : List X) (j : ℕ) (d : X) → ComesFirst (λ x y. nat_lt (of x) (of y)) x xs → j < length xs → nat_lt (of x) (of (get_or xs j d)) ≡ true
+  first-under x [] j d first within = absurd (omega arith)
+  first-under x (y ∷ ys) zero d first within = first.0
+  first-under x (y ∷ ys) (suc j) d first within = first-under x ys j d first.1 (omega arith)
+
   pub non-decreasing : (xs : List X) → IsRising (λ x y. nat_lt (of x) (of y)) xs → IsNonDecreasingBy of xs
   non-decreasing [] rising i j d order within = absurd (omega arith)
   non-decreasing (x ∷ xs) rising zero zero d order within = omega arith
   non-decreasing (x ∷ xs) rising zero (suc j) d order within = first-at x xs j d rising.0 (omega arith)
   non-decreasing (x ∷ xs) rising (suc i) zero d order within = absurd (omega arith)
   non-decreasing (x ∷ xs) rising (suc i) (suc j) d order within = non-decreasing xs rising.1 i j d (omega arith) (omega arith)
+
+  -- a place at which the client's own stands, and one behind all
+
+  rising-under : (xs : List X) → IsRising (λ x y. nat_lt (of x) (of y)) xs → (i j : ℕ) (d : X) → i < j → j < length xs → nat_lt (of (get_or xs i d)) (of (get_or xs j d)) ≡ true
+  rising-under [] rising i j d order within = absurd (omega arith)
+  rising-under (x ∷ xs) rising zero zero d order within = absurd (omega arith)
+  rising-under (x ∷ xs) rising zero (suc j) d order within = first-under x xs j d rising.0 (omega arith)
+  rising-under (x ∷ xs) rising (suc i) zero d order within = absurd (omega arith)
+  rising-under (x ∷ xs) rising (suc i) (suc j) d order within = rising-under xs rising.1 i j d (omega arith) (omega arith)
+
+  pub own-place : (client : ℕ) (xs : List X) (place : ℕ) (one : X) → IsRising (λ x y. nat_lt (of x) (of y)) xs → place < length xs → one ≡ get_or xs place one → is_for client one ≡ true → place ≡ place_in client xs
+  own-place client xs place one rising within there own =
+      let same : of one ≡ client = eqb-true (of one) client own in
+      let here : (d : X) → of (get_or xs place d) ≡ client = λ d. ap of (get_or_default xs place d one within ∙ sym there) ∙ same in
+      point-is (λ x. nat_lt (of x) client) xs place (omega arith) (
+        λ k d low high. ap (λ n. nat_lt (of (get_or xs k d)) n) (sym (here d)) ∙ rising-under xs rising k place d high within,
+        λ k d low high. not-under (of (get_or xs k d)) client (ge-le (of (get_or xs place d)) client (of (get_or xs k d)) (here d) (non-decreasing xs rising place k d low high)),
+      )
+
+  pub past-place : (client : ℕ) (xs : List X) (last : X) → IsRising (λ x y. nat_lt (of x) (of y)) xs → Some last ≡ slice_get xs (length xs - 1) → nat_lt (of last) client ≡ true → length xs ≡ place_in client xs
+  past-place client [] last rising is less = refl
+  past-place client (y ∷ ys) last rising is less =
+      let xs = y ∷ ys in
+      let end = length xs - 1 in
+      let here : (d : X) → of (get_or xs end d) ≡ of last = λ d. ap of (get_or_from_slice_get xs end last d (sym is)) in
+      point-is (λ x. nat_lt (of x) client) xs (length xs) (omega arith) (
+        λ k d low high. le-under (of (get_or xs k d)) (of (get_or xs end d)) (of last) client (non-decreasing xs rising k end d (omega arith) (omega arith)) (here d) less,
+        λ k d low high. absurd (omega arith),
+      )
 
   pub within-place : (client : ℕ) (xs : List X) → place_in client xs ≤ length xs
   within-place client [] = omega arith

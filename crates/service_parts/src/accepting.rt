@@ -1,20 +1,12 @@
 //! Notifications as they are accepted, and their records.
 ghost use Rattle.std.specs.Prelude.{◌≡◌, IfOk};
-ghost use Rattle.log_history.specs.Times.{filled_time};
 ghost use Rattle.plain_service.specs.Alarms.{accepted_as, record_for};
-ghost use Rattle.ntf_history.specs.StoredAlarms.{is_alarm};
 
-use ais_values::{Duplicate, UNKNOWN_TIME};
-use ntf_types::{Body, Notification};
+use ais_values::Duplicate;
+use log_history::filled_time;
+use ntf_types::Notification;
 use record_print::{Header, LogRecord};
 use std::alloc::{AllocError, Global};
-
-/// A time, or this moment where it is the unknown one.
-fn filled_time(time: i64, now: i64) -> i64
-    ensures { result ≡ filled_time time now }
-{
-    if time == UNKNOWN_TIME { now } else { time }
-}
 
 /// The notification as it is accepted at a moment, with its id.
 pub fn accepted(
@@ -51,11 +43,4 @@ pub fn record_for(
         },
         body: notification.text.copy(alloc)?,
     })
-}
-
-/// Whether a body is that of an alarm or a security alarm.
-pub fn is_alarm(body: &Body) -> bool
-    ensures { result ≡ is_alarm body.now }
-{
-    matches!(body, Body::Alarm { .. } | Body::Security { .. })
 }

@@ -8,7 +8,7 @@ mod reading;
 mod told;
 mod windows;
 
-pub use accepting::{accepted, is_alarm, record_for};
+pub use accepting::{accepted, record_for};
 pub use readers::stop_reader;
 pub use reading::{end_reading, read_on, start_reading};
 pub use told::Told;

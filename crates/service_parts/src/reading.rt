@@ -7,8 +7,7 @@ ghost use Rattle.alarm_view.specs.Search.{starting, next_alarm};
 ghost use Rattle.calls.specs.declared.call.Call.TheVariants.{ReaderStart, ReaderRead};
 ghost use Rattle.calls.specs.declared.reply.Reply.TheVariants.{Found};
 ghost use Rattle.client_set.specs.Rising.{put, without};
-ghost use Rattle.ntf_filters.specs.FitTests.{is_fit};
-ghost use Rattle.ntf_history.specs.Rows.{answer, start_rows_by, read_rows_by, start_by, asks_for_alarms};
+ghost use Rattle.ntf_history.specs.Rows.{answer, start_rows_by, read_rows_by, start_by};
 ghost use Rattle.plain_service.specs.Replies.{found_reply};
 ghost use Rattle.service_table.specs.Tables.{is_reader_for, reader_for, reader_before};
 ghost use Rattle.service_table.specs.Answering.{start_answer, read_in, read_answer, stop_answer};
@@ -20,26 +19,13 @@ use crate::readers::{add_reader, point_of, reader_of, stop_reader, tell_reader};
 use ais_values::{Duplicate, Status};
 use alarm_view::{AlarmView, Cursor, Direction, SearchMode};
 use calls::{Boxed, Reply, SavedReader};
-use ntf_filters::{FilterSet, check_filters};
+use ntf_filters::FilterSet;
+use ntf_service::{asks_for_alarms, is_usable};
 use ntf_types::Notification;
 use std::alloc::{AllocError, Global};
 
 /// The most readers at once.
 const MAX_READERS: usize = 16;
-
-/// Whether filters ask for alarms and security alarms alone.
-fn asks_for_alarms(filters: &FilterSet) -> bool
-    ensures { result ≡ asks_for_alarms filters.now }
-{
-    filters.objects.is_none() && filters.attributes.is_none() && filters.states.is_none()
-}
-
-/// Whether filters may be used.
-fn is_usable(filters: &FilterSet) -> bool
-    ensures { result ≡ is_fit filters.now }
-{
-    check_filters(filters).is_ok()
-}
 
 /// Whether a value is negative, in a mode that looks at it.
 fn is_negative(value: i64, code: u32) -> bool

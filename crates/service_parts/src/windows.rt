@@ -1,5 +1,5 @@
 //! The windows of all clients, in order of their numbers.
-ghost use Rattle.std.specs.Prelude.{◌≡◌, ◌<◌, ◌≤◌, List, [], length, IfOk, nat_lt, true, vec_len, find, is_some, insert, option_copied};
+ghost use Rattle.std.specs.Prelude.{◌≡◌, ◌<◌, ◌≤◌, List, [], length, IfOk, IsTrue, nat_lt, true, vec_len, find, is_some, insert, option_copied};
 ghost use Rattle.std.specs.Vec.{vec_capacity};
 ghost use Rattle.std.specs.List.{prefix_len};
 ghost use Rattle.client_set.specs.Rising.{IsRising};
@@ -37,11 +37,31 @@ fn is_for(caller: &ClientWindow, client: u16) -> bool
     caller.client == client
 }
 
-/// How many windows stand before that of a client.
+/// Whether all windows are those of lower clients.
+fn are_below(callers: &[ClientWindow], client: u16) -> bool
+    requires { IsRising window_before callers.now }
+    ensures { IsTrue result →
+        length callers.now ≡ prefix_len (λ caller. nat_lt caller.client client) callers.now }
+{
+    match callers.last() {
+        None => true,
+        Some(last) => is_below(last, client),
+    }
+}
+
+/// How many windows stand before that of a client. It is found at once where clients are 1, 2, 3 and so on, and for one above all;
+/// else by halving.
 fn place_of(callers: &[ClientWindow], client: u16) -> usize
     requires { IsRising window_before callers.now }
     ensures { result ≡ prefix_len (λ caller. nat_lt caller.client client) callers.now }
 {
+    let place = usize::from(client).saturating_sub(1);
+    if place < callers.len() && is_for(&callers[place], client) {
+        return place;
+    }
+    if are_below(callers, client) {
+        return callers.len();
+    }
     callers.partition_point(|caller| is_below(caller, client))
 }
 
