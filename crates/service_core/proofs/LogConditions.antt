@@ -1,20 +1,22 @@
 -- What calls of the log ask, by what is kept.
 use Rattle.std.proofs.Common.{◌≡◌, ◌≢◌, ℕ, ◌+◌, ◌≤◌, Bool, true, false, cond, List, [], refl, sym, ◌∙◌, subst}
-use Rattle.std.specs.Prelude.{ℤ, Option, Some, None}
+use Rattle.std.specs.Prelude.{ℤ, Option, Some, None, is_some}
 use Rattle.std.specs.List.{AllByRecursion}
+use Rattle.std.specs.Option.{option_map_or}
 use Rattle.ais_values.specs.declared.status.Status.{Status}
 use Rattle.ais_values.specs.declared.status.Status.TheVariants as status
+use Rattle.stream_config.specs.declared.attrs.StreamAttrs.{StreamAttrs}
 use Rattle.stream_config.specs.declared.attrs.StreamName.{StreamName}
 use Rattle.stream_layout.specs.Carrying.{IsFitEvent}
 use Rattle.stream_config.specs.declared.mark.Mark.{Mark}
 use Rattle.record_print.specs.declared.record.Header.{Header}
 use Rattle.record_print.specs.declared.record.LogRecord.{LogRecord}
 use Rattle.calls.specs.declared.call.Call.TheVariants.{LogWrite}
-use Rattle.log_history.specs.Changes.{LogChange, Stored}
-use Rattle.log_history.specs.KeptAnswers.{is_filled, kept_mark, write_status}
+use Rattle.log_history.specs.Changes.{LogChange, Opened, Stored}
+use Rattle.log_history.specs.KeptAnswers.{is_filled, kept_mark, kept_stream, making_in, write_status}
 use Rattle.log_history.specs.Marks.{is_filtered}
 use Rattle.log_history.specs.Stamps.{second_in}
-use Rattle.log_history.specs.Table.{LogTable, table_after}
+use Rattle.log_history.specs.Table.{LogTable, OpenStream, events_of, table_after}
 use Rattle.log_history.specs.Times.{second_of, record_at}
 use Rattle.log_service.specs.State.{IsCallTime, HasNumberLeft}
 use Rattle.log_service.specs.Planning.{Plans, planned}
@@ -34,9 +36,16 @@ pub number-left : (kept : LogTable) (now : ℤ) (stream : StreamName) → CanCal
 number-left kept now stream can = numbers-left kept now stream can
 
 -- what holds where a call is ok, and where it is refused
-by-answer : {X : Type 0} (answered : Status) → (answered ≡ status.Ok → X) → (answered ≢ status.Ok → X) → X
+pub by-answer : {X : Type 0} (answered : Status) → (answered ≡ status.Ok → X) → (answered ≢ status.Ok → X) → X
 by-answer status.Ok ok refused = ok refl
 by-answer _ ok refused = refused (λ e. cc)
+
+-- where the stream lives, an open does nothing to streams
+pub joins-nothing : (kept : LogTable) (client : ℕ) (name : StreamName) (create : Option StreamAttrs) (second number : ℕ) → is_some (kept_stream kept.streams name) ≡ true → events_of (Opened client name (making_in kept.streams name create) second number) kept ≡ []
+joins-nothing kept client name create second number lives = by (kept_stream kept.streams name) lives where
+  by : (found : Option OpenStream) → is_some found ≡ true → events_of (Opened client name (option_map_or (λ (_ : OpenStream). None) found create) second number) kept ≡ []
+  by (Some stream) lives = refl
+  by None lives = cc
 
 -- where something is done to streams the call is ok, and its record is not filtered
 pub done-ok : (kept : LogTable) (change : LogChange) (answered : Status) (filtered : Bool) (mark : Option Mark) (plan : LogPlan) → Plans kept answered filtered mark change plan → plan.step.events ≢ [] → answered ≡ status.Ok

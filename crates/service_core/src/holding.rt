@@ -1,6 +1,7 @@
 //! The items that subscriptions hold.
-ghost use Rattle.std.specs.Prelude.{◌≡◌, ◌++◌, slice_get, IfOk, OnOk};
+ghost use Rattle.std.specs.Prelude.{◌≡◌, ◌++◌, map, slice_get, IfOk, OnOk};
 ghost use Rattle.std.specs.Option.{option_map_or};
+ghost use Rattle.plain_service.specs.Items.{held_for};
 ghost use Rattle.ntf_service.specs.Told.{told};
 ghost use Rattle.service_core.specs.Holding.{items_by, items_in, items_at};
 
@@ -8,20 +9,32 @@ use ais_values::{Duplicate, Seq};
 use calls::{Boxed, Held};
 use ntf_service::{NtfState, Subscription};
 use std::alloc::{AllocError, Global};
+use sub_queue::Item;
+
+/// Adds items of a client's subscription under a key.
+fn add_each(
+    alloc: Global,
+    held: &mut Seq<Held>,
+    client: u16,
+    key: u32,
+    items: &[Item],
+) -> Result<(), AllocError>
+    ensures { OnOk result (held.new ≡ held.old ++ map (held_for client key) items.now) }
+{
+    for item in items {
+        let item = Boxed::new(alloc, item.copy(alloc)?)?;
+        held.push(Held { client, key, item })?;
+    }
+    Ok(())
+}
 
 /// Adds the items that a subscription holds.
 fn add_items(alloc: Global, held: &mut Seq<Held>, sub: &Subscription) -> Result<(), AllocError>
     ensures { OnOk result (held.new ≡ held.old ++ items_by (told sub.now)) }
 {
-    let items = sub.queue.items();
-    for item in items {
-        let item = Boxed::new(alloc, item.copy(alloc)?)?;
-        held.push(Held {
-            client: sub.client,
-            key: sub.key,
-            item,
-        })?;
-    }
+    let (front, behind) = sub.queue.items();
+    add_each(alloc, held, sub.client, sub.key, front)?;
+    add_each(alloc, held, sub.client, sub.key, behind)?;
     Ok(())
 }
 

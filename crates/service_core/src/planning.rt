@@ -9,8 +9,27 @@ ghost use Rattle.stream_layout.specs.Carrying.{IsFitEvent};
 
 use crate::deeds::deeds_of_all;
 use crate::parts::{Acted, told_with};
-use log_service::{LogPlan, LogState};
+use ais_values::Seq;
+use log_service::{LogPlan, LogState, Step};
 use std::alloc::{AllocError, Global};
+
+/// What a call came to that did nothing to streams.
+pub(crate) fn done_alone(alloc: Global, step: Step) -> Acted
+    ensures told { IsTold step.status (marked_by step.filtered step.mark) result.told }
+    ensures deeds { result.deeds ≡ [] }
+{
+    let Step {
+        status,
+        filtered,
+        mark,
+        events,
+    } = step;
+    drop(events);
+    Acted {
+        told: told_with(status, filtered, mark),
+        deeds: Seq::new(alloc),
+    }
+}
 
 /// Makes the deeds of a planned call and then the call itself. On an error, which comes only where something was done to
 /// streams, nothing changes.

@@ -16,7 +16,7 @@ use log_service::LogState;
 use ntf_service::{NtfState, Subscription};
 use service_table::ClientWindow;
 use std::alloc::{AllocError, Global};
-use sub_queue::{Content, Item};
+use sub_queue::{Content, Item, SubQueue};
 
 /// Copies of values, in order.
 pub(crate) fn copied<T: Duplicate + Drop>(alloc: Global, items: &[T]) -> Result<Seq<T>, AllocError>
@@ -146,14 +146,28 @@ fn alarms_of(alloc: Global, alarms: &AlarmView) -> Result<Seq<SavedAlarm>, Alloc
     Ok(saved)
 }
 
-/// What items hold, in order.
-fn contents_of(alloc: Global, items: &[Item]) -> Result<Seq<Content>, AllocError>
-    ensures { IfOk result (λ contents. contents ≡ contents_in items.now) }
+/// Adds what items hold, in order.
+fn add_contents(
+    alloc: Global,
+    contents: &mut Seq<Content>,
+    items: &[Item],
+) -> Result<(), AllocError>
+    ensures { OnOk result (contents.new ≡ contents.old ++ contents_in items.now) }
 {
-    let mut contents = Seq::new(alloc);
     for item in items {
         contents.push(item.content.copy(alloc)?)?;
     }
+    Ok(())
+}
+
+/// What the items of a queue hold, in order.
+fn contents_of(alloc: Global, queue: &SubQueue) -> Result<Seq<Content>, AllocError>
+    ensures { IfOk result (λ contents. contents ≡ queue.now.queue.held) }
+{
+    let (front, behind) = queue.items();
+    let mut contents = Seq::new(alloc);
+    add_contents(alloc, &mut contents, front)?;
+    add_contents(alloc, &mut contents, behind)?;
     Ok(contents)
 }
 
@@ -161,9 +175,9 @@ fn contents_of(alloc: Global, items: &[Item]) -> Result<Seq<Content>, AllocError
 fn push_sub(alloc: Global, subs: &mut Seq<SavedSub>, sub: &Subscription) -> Result<(), AllocError>
     ensures { OnOk result (subs.new ≡ subs.old ++ saved_queue (told sub.now) ∷ []) }
 {
-    let held = contents_of(alloc, sub.queue.items())?;
+    let held = contents_of(alloc, &sub.queue)?;
     let lost = copied(alloc, sub.queue.lost())?;
-    let filters = sub.filters.copy(alloc)?;
+    let filters = sub.filters.get().copy(alloc)?;
     subs.push(SavedSub {
         client: sub.client,
         key: sub.key,

@@ -29,9 +29,9 @@ use crate::writing::keep_standing;
 use ais_values::{Duplicate, Seq, Status, StreamKind};
 use alarm_view::AlarmView;
 use log_service::{LogPlan, LogState};
-use ntf_service::NtfState;
+use ntf_service::{NtfState, is_alarm};
 use ntf_types::{Notification, check_notification};
-use service_parts::{Told, accepted, is_alarm, record_for};
+use service_parts::{Told, accepted, record_for};
 use std::alloc::{AllocError, Global};
 
 /// Whether a notification may be sent.
@@ -122,8 +122,7 @@ fn offer_and_keep(
     ensures err { OnErr result
         ((ntf.new.table ≡ ntf.old.table) × (alarms.new.kept ≡ alarms.old.kept)) }
 {
-    let copy = sent.copy(alloc)?;
-    let plan = ntf.plan_send(alloc, copy)?;
+    let plan = ntf.plan_lent(alloc, sent)?;
     if !is_alarm(&sent.body) {
         return Ok(ntf.commit_send(plan));
     }

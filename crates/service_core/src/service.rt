@@ -35,9 +35,16 @@ use stream_layout::Deed;
 
 /// The whole service. Contracts see the value that it can hand on. All that it has stands by itself in memory, so a service is
 /// small where it is moved.
-#[derive(Drop)]
 pub struct Service {
     whole: Box<Whole>,
+}
+
+// Written out, as a derived one is proved anew in each crate that lets a service go.
+impl Drop for Service {
+    fn drop(self) {
+        let Service { whole } = self;
+        drop(whole);
+    }
 }
 
 impl Model for Service {
@@ -253,7 +260,14 @@ impl Service {
                 time,
                 call,
             } => {
-                let effect = apply_call(&mut self.whole.kept, alloc, *client, *seq, *time, call)?;
+                let effect = apply_call(
+                    &mut self.whole.kept,
+                    alloc,
+                    *client,
+                    *seq,
+                    *time,
+                    call.get(),
+                )?;
                 Ok(effect)
             }
             Entry::Receipted {

@@ -1,29 +1,17 @@
-use Rattle.std.proofs.Common.{false, refl}
+use Rattle.std.proofs.Common.{◌≡◌, [], refl, ap, sym, ◌∙◌}
 use Rattle.std.specs.Prelude.{None}
 use Rattle.calls.specs.declared.call.Call.TheVariants.{LogInit}
 use Rattle.log_history.specs.Changes.{Began}
-use Rattle.service_fit.proofs.CallLaws.{fit-by}
-use Rattle.ais_values.proofs.Basics.{OnErr-from}
+use Rattle.log_history.specs.Deeds.{deeds_of_all}
 use Rattle.service_core.specs.Acting.{table_of}
-use Rattle.service_core.proofs.ActLaws.{log-acted}
-use Rattle.service_core.proofs.LogConditions.{done-ok}
+use Rattle.service_core.proofs.ActLaws.{log-stepped}
+use Rattle.service_core.proofs.LogConditions.{by-answer}
 use Rattle.service_core.proofs.logging.log_init.Goals as goal
-
-pub make_planned-requires-clause-can : goal.make_planned-requires-clause-can
-make_planned-requires-clause-can c =
-    let plans = c.in_ok-plan.ensures.ok in
-    plans.can
-
-pub make_planned-requires-clause-events : goal.make_planned-requires-clause-events
-make_planned-requires-clause-events c =
-    let plans = c.in_ok-plan.ensures.ok in
-    fit-by c.in_ok-plan.plan.step.status (Began c.args.client) c.args.parts.now.log.table c.in_ok-plan.plan.step.events (λ e. (plans.ok e).done) (λ n. (plans.refused n).done) (λ e. tt)
 
 pub returns-clause-ok : goal.returns-clause-ok
 returns-clause-ok c =
-    let acted = c.in_ok-acted.ensures in
-    λ seq. log-acted (table_of c.args.parts.now) c.args.client seq c.args.now LogInit None (Began c.args.client) c.in_ok-plan.plan c.make_planned.new.log.table c.in_ok-acted.acted tt refl refl c.in_ok-plan.ensures.ok acted.now acted.told acted.deeds
-
-pub returns-in_err-acted-clause-memory : goal.returns-in_err-acted-clause-memory
-returns-in_err-acted-clause-memory c =
-    OnErr-from c.from_residual-in_err-acted.result (done-ok c.args.parts.now.log.table (Began c.args.client) _ false None c.in_ok-plan.plan c.in_ok-plan.ensures.ok c.in_err-acted.ensures.memory)
+    let step = c.in_ok-step.step in
+    let came = c.in_ok-step.ensures in
+    let none : step.events ≡ [] = by-answer step.status (λ e. (came.ok e).done) (λ n. (came.refused n).done) in
+    let acted = c.done_alone.ensures in
+    λ seq. log-stepped (table_of c.args.parts.now) c.args.client seq c.args.now LogInit None (Began c.args.client) step c.init.new.self.table c.done_alone.result tt refl refl came.status came.told came.ok came.refused acted.told (acted.deeds ∙ sym (ap deeds_of_all none))

@@ -1,14 +1,11 @@
 use Rattle.std.proofs.Common.{[], ◌∷◌, ◌++◌, ap, ◌∙◌}
 use Rattle.calls.specs.declared.saved.SavedSub.{SavedSub}
 use Rattle.ntf_service.specs.Told.{told}
-use Rattle.service_core.specs.Holding.{contents_in}
-use Rattle.service_core.proofs.HoldingLaws.{contents-numbered}
 use Rattle.service_core.proofs.SavingLaws.{sub-as}
 use Rattle.service_core.proofs.saving.push_sub.Goals as goal
 
 pub returns : goal.returns
 returns c =
     let sub = told c.args.sub.now in
-    let held = c.in_ok-held.ensures ∙ ap contents_in c.items.ensures.items ∙ contents-numbered sub.queue.first sub.queue.held in
     c.in_ok-push.ensures.ok
-    ∙ ap (λ (s : SavedSub). c.args.subs.now ++ s ∷ []) (sub-as sub c.in_ok-filters.filters c.first.result c.in_ok-held.held c.in_ok-lost.lost c.in_ok-filters.ensures c.first.ensures held (c.in_ok-lost.ensures ∙ c.lost.ensures))
+    ∙ ap (λ (s : SavedSub). c.args.subs.now ++ s ∷ []) (sub-as sub c.in_ok-filters.filters c.first.result c.in_ok-held.held c.in_ok-lost.lost (c.in_ok-filters.ensures ∙ c.get.ensures) c.first.ensures c.in_ok-held.ensures (c.in_ok-lost.ensures ∙ c.lost.ensures))

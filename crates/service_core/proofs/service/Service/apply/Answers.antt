@@ -40,7 +40,7 @@ returns-in_ok-effect-in-Called-clause-ok c =
     let sound = subst (λ (whole : Whole). HaveQueues whole.kept.parts.ntf.table.capacity whole.kept.parts.ntf.table.subs) c.deref.ensures c.show_sound.ensures in
     let later = kept_table c.apply_call.new.kept in
     let time_is : to_z w64 (of_z w64 c.in-Called.time) ≡ c.in-Called.time = search rules in
-    let applied = subst (λ moment. HasApplied kept c.in-Called.client c.in-Called.seq moment c.in-Called.call later c.in_ok-effect-in-Called.effect) time_is (subst (λ (whole : Whole). HasApplied (kept_table whole.kept) c.in-Called.client c.in-Called.seq (to_z w64 (of_z w64 c.in-Called.time)) c.in-Called.call later c.in_ok-effect-in-Called.effect) c.deref_mut.ensures.value c.in_ok-effect-in-Called.ensures.ok) in
+    let applied = subst (λ moment. HasApplied kept c.in-Called.client c.in-Called.seq moment c.in-Called.call later c.in_ok-effect-in-Called.effect) time_is (subst (λ (whole : Whole). HasApplied (kept_table whole.kept) c.in-Called.client c.in-Called.seq (to_z w64 (of_z w64 c.in-Called.time)) c.in-Called.call later c.in_ok-effect-in-Called.effect) c.deref_mut.ensures.value (rw c.get.ensures at c.in_ok-effect-in-Called.ensures.ok)) in
     λ setup past history stands can.
     subst (λ entry. HasFollowed setup past entry (saved_table later) c.in_ok-effect-in-Called.effect) (sym c.in-Called.is) (followed-call setup past c.in-Called.client c.in-Called.seq c.in-Called.time c.in-Called.call kept later c.in_ok-effect-in-Called.effect sound history (subst (StandsFor setup past) (sym c.self.view_is) stands) (subst (λ entry. CanFollow setup entry past) c.in-Called.is can) applied)
 
@@ -60,7 +60,7 @@ returns-in_ok-effect-in-Called-clause-value c =
     let later = kept_table c.apply_call.new.kept in
     let effect = c.in_ok-effect-in-Called.effect in
     let time_is : to_z w64 (of_z w64 c.in-Called.time) ≡ c.in-Called.time = search rules in
-    let applied = subst (λ moment. HasApplied kept c.in-Called.client c.in-Called.seq moment c.in-Called.call later effect) time_is (subst (λ (whole : Whole). HasApplied (kept_table whole.kept) c.in-Called.client c.in-Called.seq (to_z w64 (of_z w64 c.in-Called.time)) c.in-Called.call later effect) c.deref_mut.ensures.value c.in_ok-effect-in-Called.ensures.ok) in
+    let applied = subst (λ moment. HasApplied kept c.in-Called.client c.in-Called.seq moment c.in-Called.call later effect) time_is (subst (λ (whole : Whole). HasApplied (kept_table whole.kept) c.in-Called.client c.in-Called.seq (to_z w64 (of_z w64 c.in-Called.time)) c.in-Called.call later effect) c.deref_mut.ensures.value (rw c.get.ensures at c.in_ok-effect-in-Called.ensures.ok)) in
     subst (λ entry. Applies entry c.args.self.now (saved_table later) effect) (sym c.in-Called.is)
     (subst (λ saved. Applies (Called c.in-Called.client c.in-Called.seq c.in-Called.time c.in-Called.call) saved (saved_table later) effect) c.self.view_is
     (call-applies c.in-Called.client c.in-Called.seq c.in-Called.time c.in-Called.call kept later effect sound applied))
