@@ -1,3 +1,4 @@
+pub mod Falling
 pub mod Handing
 pub mod Keeping
 pub mod Known

@@ -1,5 +1,5 @@
 -- What a reply makes of the marks that were seen, and which callback it gives.
-use Rattle.std.proofs.Common.{◌≡◌, ℕ, ◌==◌, Bool, true, false, not, ◌&&◌, cond, if◌then◌else◌, Option, Some, None, List, [], ◌∷◌, ◌++◌, length, refl, ap, sym, subst, ◌∙◌}
+use Rattle.std.proofs.Common.{◌≡◌, ℕ, ◌==◌, Bool, true, false, not, ◌&&◌, cond, if◌then◌else◌, Option, Some, None, List, [], ◌∷◌, ◌++◌, length, refl, ap, sym, subst, ◌∙◌, true≢false}
 use Rattle.std.specs.Prelude.{nat_le}
 use Rattle.std.specs.Global.{Vec}
 use Rattle.std.specs.Map.{lookup}
@@ -99,6 +99,12 @@ pub lacks-by : (places : ℕ) (queue : List Callback) (changed : Option (StreamN
 lacks-by places queue (Some changed) asked status = refl
 lacks-by places queue None (Some invocation) status = refl
 lacks-by places queue None None status = refl
+
+-- a callback that is given whatever the mask lacks a place in each case
+pub lacks-anyway : (places : ℕ) (queue : List Callback) (changed : Option (StreamName × ℕ)) (asked : Option ℕ) (status : Status) → true ≡ (gives None asked && nat_le places (length queue)) → true ≡ lacks_place places queue (given_by changed asked status)
+lacks-anyway places queue (Some changed) (Some invocation) status full = full
+lacks-anyway places queue None (Some invocation) status full = full
+lacks-anyway places queue changed None status full = absurd (true≢false full)
 
 -- What becomes of a reply.
 

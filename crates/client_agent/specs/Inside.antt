@@ -1,5 +1,6 @@
 -- Words of bodies alone: how an agent keeps its calls, subscriptions, callbacks and marks, the newest in front.
-use Rattle.std.specs.Prelude.{◌≡◌, ℕ, suc, ◌<◌, ◌≤◌, ◌==◌, ⊤, Bool, true, false, not, if◌then◌else◌, Option, Some, None, option_map, List, [], ◌∷◌}
+use Rattle.std.specs.Prelude.{◌≡◌, ℕ, suc, ◌<◌, ◌≤◌, ◌==◌, ⊤, Bool, true}
+use Rattle.std.specs.Prelude.{false, not, if◌then◌else◌, Option, Some, None, option_map, List, [], ◌∷◌}
 use Rattle.std.specs.Global.{Vec}
 use Rattle.std.specs.Prelude.{length, map, take, drop, reverse}
 use Rattle.indexmap.specs.IndexMap.{spare}
@@ -56,6 +57,15 @@ AreBelow bound (subscription ∷ living) = (subscription.key < bound) × AreBelo
 abbrev pub mark_kept : SeenMark → StreamName × Mark
 mark_kept seen = (seen.stream, seen.mark)
 
+-- numbers of calls fall, all of them below the bound
+abbrev pub AreFalling : ℕ → List (ℕ × Call) → Type 0
+AreFalling bound [] = ⊤
+AreFalling bound (sent ∷ kept) = (sent.0 < bound) × AreFalling sent.0 kept
+
+-- calls stand by falling numbers
+abbrev pub Fall : List (ℕ × Call) → Type 0
+Fall kept = (bound : ℕ) × AreFalling bound kept
+
 -- the bytes by which the mark of a stream of this name is found
 abbrev pub key_of : StreamName → List ℕ
 key_of name = name_code name ∷ own_name name
@@ -95,9 +105,9 @@ seen_inside inside = record {
   marks = inside.marks.told;
 }
 
--- each subscription was made by a call of its own that was sent
+-- each subscription was made by a call of its own that was sent, and calls stand by falling numbers
 abbrev pub AreOfCalls : Inside → Type 0
-AreOfCalls inside = AreBelow inside.next (all_living inside.living.items)
+AreOfCalls inside = AreBelow inside.next (all_living inside.living.items) × AreFalling inside.next (calls_kept inside.kept.items)
 
 -- the agent of which this is seen, and from which these callbacks were handed out
 abbrev pub agent_of : Seen → List Callback → Agent

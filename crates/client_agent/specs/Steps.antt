@@ -1,5 +1,6 @@
 -- Words of public clauses: what each call of an agent answers, and what is seen of the agent after it.
-use Rattle.std.specs.Prelude.{◌≡◌, ℕ, suc, ◌+◌, ◌≤◌, ⊤, Bool, true, false, nat_lt, nat_le, Option, Some, None, List, [], ◌∷◌, length, reverse}
+use Rattle.std.specs.Prelude.{◌≡◌, ℕ, suc, ◌+◌, ◌≤◌, ⊤, Bool, true, false}
+use Rattle.std.specs.Prelude.{nat_lt, nat_le, Option, Some, None, List, [], ◌∷◌, length, reverse}
 use Rattle.callback_dispatch.specs.declared.numbered.Numbered.{Numbered}
 use Rattle.cluster_facts.specs.Types.{Ask, Call, Reply, Item, Callback, Message, Request, Answer, Delivery, Receipt}
 use Rattle.cluster_facts.specs.Agents.{Living, Agent, call_of, refusal, dispatch_refusal, after_call, kept_call, callbacks_of, lacks_place, after_reply}
@@ -19,7 +20,8 @@ use Rattle.client_agent.specs.Seen.{Seen, seen_of}
 
 abbrev pub IsSent : ℕ → ℕ → Ask → Agent → Sent → Seen → Type 0
 IsSent client places asked agent (Posted message) seen =
-    (refusal asked agent ≡ None) × (message ≡ Request client agent.next (call_of asked)) × (seen ≡ seen_of client places (after_call (call_of asked) agent))
+    (refusal asked agent ≡ None) × (message ≡ Request client agent.next (call_of asked))
+    × (seen ≡ seen_of client places (after_call (call_of asked) agent))
 IsSent client places asked agent (Refused status) seen =
     (refusal asked agent ≡ Some status) × (seen ≡ seen_of client places agent)
 

@@ -23,9 +23,16 @@ use wire::Message;
 /// callbacks as its queue has places, and one mark for each name of a stream that it was told of. Of the callbacks
 /// that were handed out it keeps the count. The queue may be emptied by many threads; the agent has both of its ends. What it keeps
 /// stands by itself in memory, so a list of agents is small.
-#[derive(Drop)]
 pub struct Agent {
     library: Box<Library>,
+}
+
+// Written out, as a derived one is proved anew in each crate that lets such a value go.
+impl Drop for Agent {
+    fn drop(self) {
+        let Agent { library } = self;
+        drop(library);
+    }
 }
 
 impl Model for Agent {

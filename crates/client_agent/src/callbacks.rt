@@ -34,6 +34,13 @@ fn asked_back(call: &Call) -> Option<u64>
     }
 }
 
+/// Whether any reply to a call gives a callback.
+pub fn asks_callback(call: &Call) -> bool
+    ensures { result ≡ gives None (asked_back call.now) }
+{
+    asked_back(call).is_some()
+}
+
 /// Whether a reply to a call gives a callback, by the later mark that it tells.
 pub fn gives_callback(call: &Call, later: Option<LaterMark>) -> bool
     ensures { result ≡ gives (changed_by (option_map later_of later.entry)) (asked_back call.now) }

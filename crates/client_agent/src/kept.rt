@@ -1,13 +1,13 @@
 //! The calls that were sent and whose reply was not taken, the newest in front.
-ghost use Rattle.std.specs.Prelude.{◌≡◌, ◌+◌, ◌==◌, nat_le, ◌++◌, OnOk, IfOk};
+ghost use Rattle.std.specs.Prelude.{◌≡◌, ◌+◌, ◌==◌, nat_le, ◌++◌, Some, OnOk, IfOk, IfSome};
 ghost use Rattle.std.specs.List.{find, list_any};
 ghost use Rattle.std.specs.Option.{option_copied};
 ghost use Rattle.client_set.specs.Rising.{without};
 ghost use Rattle.cluster_facts.specs.Agents.{service_of, call_of, kept_call, requests_of, log_after, ntf_after};
-ghost use Rattle.client_agent.specs.Inside.{calls_kept};
+ghost use Rattle.client_agent.specs.Inside.{calls_kept, Fall};
 
 use ais_values::{Duplicate, Which};
-use calls::{Ask, Call};
+use calls::{Ask, Call, Shared};
 use std::alloc::{AllocError, Global};
 use std::collections::VecDeque;
 use wire::Message;
@@ -16,7 +16,7 @@ use wire::Message;
 #[derive(Drop)]
 pub struct Kept {
     pub number: u32,
-    pub call: Call,
+    pub call: Shared<Call>,
 }
 
 /// How many calls may be unanswered.
@@ -54,7 +54,7 @@ fn call_of(alloc: Global, ask: &Ask) -> Result<Call, AllocError>
     }
 }
 
-/// A value and a copy of it. Where none is made the value is let go here, as one of any type: it may be wide.
+/// A value and a copy of it.
 fn with_copy<T: Duplicate + Drop>(alloc: Global, value: T) -> Result<(T, T), AllocError>
     ensures { IfOk result (λ pair. (pair.0 ≡ value) × (pair.1 ≡ value)) }
 {
@@ -63,12 +63,13 @@ fn with_copy<T: Duplicate + Drop>(alloc: Global, value: T) -> Result<(T, T), All
 }
 
 /// The call that is sent for what is asked, to be kept and to be posted.
-pub fn calls_of(alloc: Global, ask: &Ask) -> Result<(Call, Call), AllocError>
+pub fn calls_of(alloc: Global, ask: &Ask) -> Result<(Shared<Call>, Shared<Call>), AllocError>
     ensures { IfOk result (λ calls.
         (calls.0 ≡ call_of ask.now) × (calls.1 ≡ call_of ask.now)) }
 {
     let call = call_of(alloc, ask)?;
-    with_copy(alloc, call)
+    let kept = Shared::new(alloc, call)?;
+    with_copy(alloc, kept)
 }
 
 /// Whether the client has a handle of the Log Service after this call.
@@ -108,13 +109,48 @@ fn find_kept(kept: &VecDeque<Kept>, number: u32) -> Option<&Kept>
     kept.iter().find(|sent| sent.number == number)
 }
 
-/// The unanswered call of this number.
-pub fn find_call(kept: &VecDeque<Kept>, number: u32) -> Option<&Call>
+/// The unanswered call of this number, wherever it stands.
+fn look_for(kept: &VecDeque<Kept>, number: u32) -> Option<&Call>
     ensures { option_copied result ≡ kept_call number (calls_kept kept.now.items) }
 {
     match find_kept(kept, number) {
-        Some(sent) => Some(&sent.call),
+        Some(sent) => Some(sent.call.get()),
         None => None,
+    }
+}
+
+/// The unanswered call of this number, where it stands as far from the newest as calls were sent after it: none of these
+/// has its reply.
+fn call_at(kept: &VecDeque<Kept>, number: u32) -> Option<&Call>
+    requires { Fall (calls_kept kept.now.items) }
+    ensures { IfSome result (λ call. Some call.now ≡ kept_call number (calls_kept kept.now.items)) }
+{
+    if kept.is_empty() {
+        return None;
+    }
+    let newest = kept[0].number;
+    if newest < number {
+        return None;
+    }
+    let place = (newest - number) as usize;
+    if place >= kept.len() {
+        return None;
+    }
+    let sent = &kept[place];
+    if sent.number != number {
+        return None;
+    }
+    Some(sent.call.get())
+}
+
+/// The unanswered call of this number. Where calls are answered in order it is told at once.
+pub fn find_call(kept: &VecDeque<Kept>, number: u32) -> Option<&Call>
+    requires { Fall (calls_kept kept.now.items) }
+    ensures { option_copied result ≡ kept_call number (calls_kept kept.now.items) }
+{
+    match call_at(kept, number) {
+        Some(call) => Some(call),
+        None => look_for(kept, number),
     }
 }
 

@@ -105,9 +105,9 @@ impl Library {
         self.kept.reserve_exact(1)?;
         make_place(&mut self.living, ask)?;
         let (call, posted) = calls_of(alloc, ask)?;
-        note_call(&mut self.living, self.next, &call);
-        self.log_handle = log_after(&call, self.log_handle);
-        self.ntf_handle = ntf_after(&call, self.ntf_handle);
+        note_call(&mut self.living, self.next, call.get());
+        self.log_handle = log_after(call.get(), self.log_handle);
+        self.ntf_handle = ntf_after(call.get(), self.ntf_handle);
         let number = self.next;
         self.kept.push_front_reserved(Kept { number, call });
         self.next = number + 1;
@@ -245,6 +245,11 @@ impl Library {
                 why: MissedWhy::Answered,
             }),
             Some(call) => {
+                // Before the mark is looked up.
+                if self.callbacks.bars(call) {
+                    let why = MissedWhy::Left;
+                    return Ok(Taken::Missed { why });
+                }
                 let later = self.marks.later(alloc, call, reply)?;
                 if self.callbacks.lacks_place(gives_callback(call, later)) {
                     let why = MissedWhy::Left;

@@ -1,5 +1,6 @@
 //! The queue in which a client's callbacks wait, and both of its ends.
-ghost use Rattle.std.specs.Prelude.{◌≡◌, suc, ◌+◌, ◌^◌, ◌<◌, ◌≤◌, nat_le, [], ◌∷◌, ◌++◌, length, reverse, Some, slice_get, IfOk, OnOk, OnErr};
+ghost use Rattle.std.specs.Prelude.{◌≡◌, suc, ◌+◌, ◌^◌, ◌<◌, ◌≤◌, nat_le, []};
+ghost use Rattle.std.specs.Prelude.{◌∷◌, ◌++◌, length, reverse, Some, slice_get, IfOk, OnOk, OnErr};
 ghost use Rattle.cluster_facts.specs.Agents.{oldest};
 ghost use Rattle.client_agent.specs.Steps.{HasWorkers, numbered, handed_out};
 ghost use Rattle.client_agent.specs.Waiting.{none_waits, after_one, after_all, after_handing};

@@ -1,14 +1,17 @@
 //! The callbacks that a client has taken: they wait in a queue until they are handed out.
-ghost use Rattle.std.specs.Prelude.{◌≡◌, ◌<◌, nat_le, ◌&&◌, ◌∷◌, ◌++◌, length, reverse, IfOk, OnOk, OnErr};
+ghost use Rattle.std.specs.Prelude.{◌≡◌, ◌<◌, nat_le, ◌&&◌, None, ◌∷◌, ◌++◌, length, reverse, IfOk, OnOk, OnErr};
 ghost use Rattle.std.specs.Option.{option_to_list, ForSome};
+ghost use Rattle.cluster_facts.specs.Agents.{asked_back};
+ghost use Rattle.client_agent.specs.Inside.{gives};
 ghost use Rattle.client_agent.specs.Steps.{HasWorkers, numbered, handed_out};
 ghost use Rattle.client_agent.specs.Waiting.{none_waits, after_handing};
 
 use crate::How;
+use crate::callbacks::asks_callback;
 use crate::ring::Ring;
 use ais_values::{Duplicate, Seq};
 use callback_dispatch::{Gate, Numbered};
-use calls::Callback;
+use calls::{Call, Callback};
 use std::alloc::{AllocError, Global};
 use std::marker::Model;
 use std::sync::Wait;
@@ -59,6 +62,14 @@ impl WaitingCallbacks {
         ensures { result ≡ (wanted && nat_le self.now.places (length self.now.queue)) }
     {
         if wanted { self.is_full() } else { false }
+    }
+
+    /// Whether any reply to a call lacks a place, whatever mark it tells.
+    pub fn bars(&self, call: &Call) -> bool
+        ensures { result ≡ (gives None (asked_back call.now)
+            && nat_le self.now.places (length self.now.queue)) }
+    {
+        self.lacks_place(asks_callback(call))
     }
 
     /// Puts a callback where a place is free. Want of memory is answered too where 2^62 callbacks were put before.

@@ -1,11 +1,13 @@
 -- Where a client's agent stands among agents by rising client: a search by halving finds it.
-use Rattle.std.proofs.Common.{◌≡◌, ℕ, zero, suc, ◌+◌, ◌<◌, ◌≤◌, ◌==◌, nat_lt, Bool, cond, Some, None, List, [], ◌∷◌, length, get_or, slice_get, refl, ap, sym, ◌∙◌, arith}
+use Rattle.std.proofs.Common.{◌≡◌, ℕ, zero, suc, ◌+◌, ◌<◌, ◌≤◌, ◌==◌, nat_lt, Bool, true, false, cond, Some, None, List, [], ◌∷◌, length, get_or, slice_get, ◌-◌, refl, ap, sym, ◌∙◌, arith}
 use Rattle.std.specs.Prelude.{option_map}
 use Rattle.std.specs.List.{position_from}
 use Rattle.std.specs.List.Sorted.{IsNonDecreasingBy}
 use Rattle.std.proofs.lemmas.Bool.{ltb-true, ltb-false}
+use Rattle.std.proofs.lemmas.Bool.Decides.{nat_tests}
 use Rattle.std.proofs.lemmas.Iterator.Adapters.{position_from-zero}
-use Rattle.std.proofs.lemmas.Option.{slice_get_past, slice_get_read}
+use Rattle.std.proofs.lemmas.List.{get_or_default}
+use Rattle.std.proofs.lemmas.Option.{slice_get_past, slice_get_read, get_or_from_slice_get}
 use Rattle.client_set.specs.Rising.{ComesFirst}
 use Rattle.cluster_facts.proofs.Words.{by_test}
 use Rattle.client_agent.specs.Seen.{Seen}
@@ -31,6 +33,43 @@ never-falling (first ∷ seen) rising zero zero d order within = omega arith
 never-falling (first ∷ seen) rising zero (suc j) d order within = first-least first seen j d rising.0 (omega arith)
 never-falling (first ∷ seen) rising (suc i) zero d order within = absurd (omega arith)
 never-falling (first ∷ seen) rising (suc i) (suc j) d order within = never-falling seen rising.1 i j d (omega arith) (omega arith)
+
+first-under : (first : Seen) (seen : List Seen) (place : ℕ) (d : Seen) → ComesFirst before first seen → place < length seen → nat_lt first.client (get_or seen place d).client ≡ true
+first-under first [] place d comes within = absurd (omega arith)
+first-under first (next ∷ seen) zero d comes within = comes.0
+first-under first (next ∷ seen) (suc place) d comes within = first-under first seen place d comes.1 (omega arith)
+
+rising-under : (seen : List Seen) → AreByClient seen → (i j : ℕ) (d : Seen) → i < j → j < length seen → nat_lt (get_or seen i d).client (get_or seen j d).client ≡ true
+rising-under [] rising i j d order within = absurd (omega arith)
+rising-under (first ∷ seen) rising zero zero d order within = absurd (omega arith)
+rising-under (first ∷ seen) rising zero (suc j) d order within = first-under first seen j d rising.0 (omega arith)
+rising-under (first ∷ seen) rising (suc i) zero d order within = absurd (omega arith)
+rising-under (first ∷ seen) rising (suc i) (suc j) d order within = rising-under seen rising.1 i j d (omega arith) (omega arith)
+
+not-under : (client x : ℕ) → client ≤ x → nat_lt x client ≡ false
+not-under client x above = grind (arith, nat_tests)
+
+under-last : (x end last client : ℕ) → x ≤ end → end ≡ last → nat_lt last client ≡ true → nat_lt x client ≡ true
+under-last x end last client order same less = grind (arith, nat_tests)
+
+-- the agents before the client's own are those of lower clients
+pub own-cut : (client place : ℕ) (seen : List Seen) (one : Seen) → place < length seen → one ≡ get_or seen place one → one.client ≡ client → AreByClient seen → IsCutAt client place seen
+own-cut client place seen one within there own rising =
+    let here : (d : Seen) → (get_or seen place d).client ≡ client = λ d. ap (λ (s : Seen). s.client) (get_or_default seen place d one within ∙ sym there) ∙ own in (
+      λ k d low high. ap (λ n. nat_lt (get_or seen k d).client n) (sym (here d)) ∙ rising-under seen rising k place d high within,
+      λ k d low high. not-under client (get_or seen k d).client (let order = never-falling seen rising place k d low high in omega (arith, here d, order)),
+    )
+
+-- all agents are those of lower clients where the last one is
+pub past-cut : (client : ℕ) (seen : List Seen) (last : Seen) → Some last ≡ slice_get seen (length seen - 1) → nat_lt last.client client ≡ true → AreByClient seen → IsCutAt client (length seen) seen
+past-cut client [] last is less rising = (λ k d low high. absurd (omega arith), λ k d low high. absurd (omega arith))
+past-cut client (first ∷ rest) last is less rising =
+    let seen = first ∷ rest in
+    let end = length seen - 1 in
+    let here : (d : Seen) → (get_or seen end d).client ≡ last.client = λ d. ap (λ (s : Seen). s.client) (get_or_from_slice_get seen end last d (sym is)) in (
+      λ k d low high. under-last (get_or seen k d).client (get_or seen end d).client last.client client (never-falling seen rising k end d (omega arith) (omega arith)) (here d) less,
+      λ k d low high. absurd (omega arith),
+    )
 
 -- What stands where the agents of lower clients end.
 

@@ -1,5 +1,5 @@
 //! The clients' agents: look-up, and callbacks handed out.
-ghost use Rattle.std.specs.Prelude.{◌≡◌, ◌<◌, ◌≤◌, ◌++◌, ℕ, length, map, slice_get, Some, IfSome, IfOk, OnOk, OnErr};
+ghost use Rattle.std.specs.Prelude.{◌≡◌, ◌<◌, ◌≤◌, ◌++◌, ℕ, length, map, slice_get, Some, IfSome, IsTrue, IfOk, OnOk, OnErr};
 ghost use Rattle.std.specs.List.{flat_map};
 ghost use Rattle.cluster_facts.specs.Agents.{Agent as AgentOf, resent};
 ghost use Rattle.client_agent.specs.Seen.{Seen, seen_of};
@@ -11,7 +11,7 @@ ghost use Rattle.cluster_clients.specs.PartlyDone.{MayDispatch};
 
 use ais_values::{Seq, Status};
 use callback_dispatch::{Gate, Numbered};
-use client_agent::{Agent, Dispatched, How};
+use client_agent::{Agent, Dispatched, How, let_agents_go};
 use event_text::{put_callback, put_declined, put_dispatched};
 use std::alloc::{AllocError, Global};
 use std::mem;
@@ -19,16 +19,35 @@ use std::sync::Wait;
 use std::thread::Threads;
 use wire::Message;
 
-/// How many agents are those of lower clients, by halving, where agents stand by rising client.
+/// Whether all agents are those of lower clients, where agents stand by rising client.
+fn are_below(agents: &[Agent], client: u16) -> bool
+    ensures { IsTrue result → AreByClient agents.now
+        → IsCutAt client (length agents.now) agents.now }
+{
+    match agents.last() {
+        None => true,
+        Some(last) => last.client() < client,
+    }
+}
+
+/// How many agents are those of lower clients, where agents stand by rising client. It is told at once where clients are 1, 2, 3
+/// and so on, and for one above all; else by halving.
 pub(crate) fn count_below(agents: &[Agent], client: u16) -> usize
     ensures bound { result ≤ length agents.now }
     ensures cut { AreByClient agents.now → IsCutAt client result agents.now }
 {
+    let place = usize::from(client).saturating_sub(1);
+    if place < agents.len() && agents[place].client() == client {
+        return place;
+    }
+    if are_below(agents, client) {
+        return agents.len();
+    }
     agents.partition_point(|agent| agent.client() < client)
 }
 
-/// The place of a client's agent, if it has one, where agents stand by rising client. It is found by halving. Where they stand
-/// otherwise an agent that it finds is the client's, but it may find none.
+/// The place of a client's agent, if it has one, where agents stand by rising client. Where they stand otherwise an agent that it
+/// finds is the client's, but it may find none.
 pub fn place_of(agents: &[Agent], client: u16) -> Option<usize>
     ensures bound { IfSome result (λ place. place < length agents.now) }
     ensures own { IfSome result (λ place. StandsAt client place agents.now) }
@@ -82,7 +101,7 @@ fn dispatch_at<R: Threads + Wait + Sync, G: Gate>(
 {
     let mut list = mem::replace(agents, Seq::new(alloc)).into_vec();
     let answer = list[place].dispatch(rt, alloc, how, gate);
-    *agents = Seq::from_vec(list);
+    let_agents_go(mem::replace(agents, Seq::from_vec(list)));
     answer
 }
 

@@ -10,7 +10,7 @@ use crate::agents::{count_below, place_of};
 use crate::posting::post;
 use ais_values::Seq;
 use calls::Ask;
-use client_agent::{Agent, Sent, let_agent_go, let_sent_go};
+use client_agent::{Agent, Sent, let_agent_go, let_agents_go, let_sent_go};
 use event_text::put_declined;
 use message_net::Net;
 use std::alloc::{AllocError, Global};
@@ -30,7 +30,7 @@ fn call_at(
 {
     let mut list = mem::replace(agents, Seq::new(alloc)).into_vec();
     let answer = list[place].call(alloc, asked);
-    *agents = Seq::from_vec(list);
+    let_agents_go(mem::replace(agents, Seq::from_vec(list)));
     answer
 }
 
@@ -106,7 +106,7 @@ fn can_call(agents: &[Agent], at: usize) -> bool
     agents[at].next() < u32::MAX
 }
 
-/// Puts an agent among the others, by rising clients. Its place is found by halving. Where memory runs out they stay.
+/// Puts an agent among the others, by rising clients. Where memory runs out they stay.
 fn enlist(alloc: Global, agents: &mut Seq<Agent>, agent: Agent) -> Result<(), AllocError>
     ensures ok { OnOk result (Enlists agent.client agent true agents.old agents.new) }
     ensures err { OnErr result (agents.new ≡ agents.old) }
@@ -114,7 +114,7 @@ fn enlist(alloc: Global, agents: &mut Seq<Agent>, agent: Agent) -> Result<(), Al
     let place = count_below(agents.as_slice(), agent.client());
     let mut list = mem::replace(agents, Seq::new(alloc)).into_vec();
     let done = list.insert(place, agent);
-    *agents = Seq::from_vec(list);
+    let_agents_go(mem::replace(agents, Seq::from_vec(list)));
     match done {
         Ok(()) => Ok(()),
         Err(failed) => {

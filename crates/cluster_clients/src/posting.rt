@@ -26,7 +26,7 @@ pub fn post(
 {
     law_of_spellings();
     let bytes = encode(alloc, message)?;
-    let posted = net.post(alloc, bytes.as_slice())?;
+    let posted = net.post_owned(bytes)?;
     if !posted.new {
         return Ok(());
     }

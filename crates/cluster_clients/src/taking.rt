@@ -12,7 +12,7 @@ ghost use Rattle.cluster_clients.specs.PartlyDone.{TakesPartly};
 use crate::agents::place_of;
 use crate::posting::post;
 use ais_values::Seq;
-use client_agent::{Agent, MissedWhy, Taken, let_taken_go};
+use client_agent::{Agent, MissedWhy, Taken, let_agents_go, let_taken_go};
 use cluster_events::Why;
 use event_text::{put_ignored, put_reply};
 use message_net::Net;
@@ -71,7 +71,7 @@ fn receive_at<R: Wait>(
 {
     let mut list = mem::replace(agents, Seq::new(alloc)).into_vec();
     let answer = list[at].receive(rt, alloc, message);
-    *agents = Seq::from_vec(list);
+    let_agents_go(mem::replace(agents, Seq::from_vec(list)));
     answer
 }
 

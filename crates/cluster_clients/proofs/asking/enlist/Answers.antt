@@ -24,4 +24,4 @@ returns-in-Ok-clause-ok c = λ rising.
     let cut = c.count_below-place.ensures.cut (subst AreByClient (sym c.as_slice.ensures) rising) in
     let front : place ≡ place_for c.client.result seen = cut-front c.client.result place seen c.count_below-place.ensures.bound cut in
     let there : place ≡ place_for agent.client old = front ∙ ap (place_for c.client.result) c.as_slice.ensures ∙ ap (λ (client : ℕ). place_for client old) c.client.ensures in
-    c.from_vec.ensures ∙ c.in-Ok.ensures.items ∙ ap (λ (xs : List Seen). insert xs place agent) (c.into_vec-list.ensures ∙ c.replace.ensures.value) ∙ ap (λ (at : ℕ). insert old at agent) there
+    c.replace-2.ensures.after ∙ c.from_vec.ensures ∙ c.in-Ok.ensures.items ∙ ap (λ (xs : List Seen). insert xs place agent) (c.into_vec-list.ensures ∙ c.replace.ensures.value) ∙ ap (λ (at : ℕ). insert old at agent) there

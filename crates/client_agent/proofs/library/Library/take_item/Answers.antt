@@ -41,7 +41,7 @@ pub invariant_of-self-2 : goal.invariant_of-self-2
 invariant_of-self-2 g c =
     let inside = c.self.inside in
     let Below : List Living → Type 0 = AreBelow inside.next in
-    subst Below (sym (ap all_living c.note_item.ensures)) (AreBelow-moved c.args.key c.args.item.now.number inside.next inside.living.items c.self.invariant)
+    (subst Below (sym (ap all_living c.note_item.ensures)) (AreBelow-moved c.args.key c.args.item.now.number inside.next inside.living.items c.self.invariant.0), c.self.invariant.1)
 
 pub returns-clause-ok : goal.returns-clause-ok
 returns-clause-ok g c =
@@ -53,7 +53,7 @@ returns-clause-ok g c =
     let is = found-living c.args.key inside.living.items found seen.living c.in-Some.ensures (ap (λ (s : Seen). s.living) c.self.view_is) in
     let next : item.number ≡ suc found.taken = omega arith in
     let Free : Seen → Type 0 = λ s. false ≡ nat_le s.places (length s.queue) in
-    let living = ap all_living c.note_item.ensures ∙ moved-item c.args.key item.number inside.next (living_of found) inside.living.items c.self.invariant look next in
+    let living = ap all_living c.note_item.ensures ∙ moved-item c.args.key item.number inside.next (living_of found) inside.living.items c.self.invariant.0 look next in
     let before = inside.callbacks in
     let put : Callback → Waiting = λ callback. record before { queue = callback ∷ before.queue } in
     let callbacks : c.put.new.self ≡ put (callback_of found.id item.content) = c.in_ok-put.ensures.ok ∙ ap put c.in_ok-callback.ensures in
