@@ -8,7 +8,7 @@ ghost use Rattle.service_core.specs.Beginning.{CanBeginAs};
 ghost use Rattle.mirror.specs.Pairing.{CanReceive};
 
 use ais_values::{Seq, StreamKind};
-use calls::{Call, Entry};
+use calls::{Call, Entry, Shared};
 use disk_model::MemDisk;
 use mirror::{Heard, Node, Outcome, Role, Why, let_heard_go, let_node_go};
 use service_core::Service;
@@ -167,13 +167,13 @@ fn works(rt: &impl Abort, alloc: Global, node: &mut Node, disk: &mut MemDisk) {
 }
 
 /// A call by which a client begins to use the Notification Service.
-fn request(client: u16, seq: u32) -> Message
+fn request(rt: &impl Abort, alloc: Global, client: u16, seq: u32) -> Message
     ensures { result ≡ Request client seq NtfInit }
 {
     Message::Request {
         client,
         seq,
-        call: Call::NtfInit,
+        call: Shared::new(alloc, Call::NtfInit).expect(rt, "memory"),
     }
 }
 
@@ -183,7 +183,7 @@ fn asks(rt: &impl Abort, alloc: Global, node: &mut Node, client: u16, seq: u32, 
     requires most { client ≤ 4096 }
     requires number { 0 < seq }
 {
-    hears(rt, alloc, node, request(client, seq), want);
+    hears(rt, alloc, node, request(rt, alloc, client, seq), want);
 }
 
 /// The receipt of a client that has no subscription.
@@ -202,6 +202,16 @@ fn receives(rt: &impl Abort, alloc: Global, node: &mut Node, want: Told) {
     hears(rt, alloc, node, receipt(), want);
 }
 
+/// Whether the active server has a reply for this call, which it would post again.
+fn repeats(node: &Node, client: u16, seq: u32) -> bool
+    requires { 0 < seq }
+{
+    match node.role() {
+        Role::Active => node.reply_again(client, seq).is_some(),
+        _ => false,
+    }
+}
+
 /// A call is accepted while nothing is in hand.
 fn accepts(rt: &impl Abort, alloc: Global, node: &mut Node) {
     asks(rt, alloc, node, 1, 2, ignored(Why::Ahead));
@@ -209,12 +219,16 @@ fn accepts(rt: &impl Abort, alloc: Global, node: &mut Node) {
     assert!(rt; node.in_hand() == Some(1));
     asks(rt, alloc, node, 2, 1, ignored(Why::Busy { number: 1 }));
     receives(rt, alloc, node, ignored(Why::Busy { number: 1 }));
+    assert!(rt; !repeats(node, 1, 1));
 }
 
 /// It is answered once it was worked, and its reply is posted again as it comes again.
 fn answers(rt: &impl Abort, alloc: Global, node: &mut Node, disk: &mut MemDisk) {
     works(rt, alloc, node, disk);
     assert!(rt; node.in_hand() == None);
+    assert!(rt; repeats(node, 1, 1));
+    assert!(rt; !repeats(node, 1, 2));
+    assert!(rt; !repeats(node, 2, 1));
     asks(rt, alloc, node, 1, 1, REPEATED);
     receives(rt, alloc, node, ignored(Why::Done));
 }
@@ -227,6 +241,8 @@ fn forgets(rt: &impl Abort, alloc: Global, node: &mut Node, disk: &mut MemDisk, 
         asks(rt, alloc, node, 1, seq, ACCEPTED);
         works(rt, alloc, node, disk);
     }
+    assert!(rt; !repeats(node, 1, 1));
+    assert!(rt; repeats(node, 1, 2));
     asks(rt, alloc, node, 1, 1, ignored(Why::Old));
     asks(rt, alloc, node, 1, 2, REPEATED);
 }
@@ -290,14 +306,14 @@ fn nothing_is_pushed_while_nothing_is_held(rt: HostRuntime) {
 }
 
 /// The first call, as it is mirrored.
-fn first_entry() -> Entry
+fn first_entry(rt: &impl Abort, alloc: Global) -> Entry
     ensures { result ≡ Called 1 1 (pos 1704067200000000000) NtfInit }
 {
     Entry::Called {
         client: 1,
         seq: 1,
         time: START,
-        call: Call::NtfInit,
+        call: Shared::new(alloc, Call::NtfInit).expect(rt, "memory"),
     }
 }
 
@@ -320,7 +336,7 @@ fn follows(rt: &impl Abort, alloc: Global, service: Service) -> Node {
     assert!(rt; !node.keeps());
     let message = Message::Mirror {
         number: 1,
-        entry: first_entry(),
+        entry: first_entry(rt, alloc),
     };
     hears(rt, alloc, &mut node, message, APPLIED);
     assert!(rt; node.keeps());

@@ -1,1 +1,3 @@
+pub mod AgainLaws
 pub mod HearSteps
+pub mod ConfirmSteps

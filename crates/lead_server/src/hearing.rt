@@ -5,14 +5,16 @@ ghost use Rattle.mirror.specs.ByValue.{items_pushed};
 ghost use Rattle.mirror.specs.Hearing.{CanHear};
 ghost use Rattle.mirror.specs.Pairing.{CanReceive};
 ghost use Rattle.cluster_clients.specs.Posted.{PostsAll, PostsSome};
+ghost use Rattle.lead_server.specs.Confirming.{is_acknowledged};
 ghost use Rattle.lead_server.specs.Heard.{AnswersInRange, HoldsInRange, Hears, HearsPartly, IsConfirmed, IsHeldBy, PushesPartly};
 
+use crate::again::is_answered;
 use crate::telling::tell_heard;
 use ais_values::Seq;
-use calls::History;
+use calls::{History, let_entry_go};
 use cluster_clients::post_all;
 use message_net::Net;
-use mirror::{Node, let_heard_go};
+use mirror::{Node, Role, let_heard_go};
 use std::alloc::{AllocError, Global};
 use wire::{Message, let_messages_go};
 
@@ -41,9 +43,23 @@ pub fn hear(
     if !active.has_room() {
         return Err(AllocError);
     }
+    let answered = is_answered(alloc, active, net, message)?;
+    if answered {
+        return Ok(Seq::new(alloc));
+    }
     history.reserve()?;
     let heard = active.hear(alloc, message, now)?;
     tell_heard(alloc, net, history, lines, place, heard)
+}
+
+/// Whether a message tells the active server that an entry was applied.
+fn is_acknowledged(role: Role, message: &Message) -> bool
+    ensures { result ≡ is_acknowledged role message.now }
+{
+    match role {
+        Role::Active => matches!(message, Message::MirrorAck { .. }),
+        _ => false,
+    }
 }
 
 /// The active server hears a message of a server beside it. Where 4,000,000,000 entries were accepted it answers as if memory ran out.
@@ -58,6 +74,11 @@ pub fn confirm(
 {
     if !active.has_room() {
         return Err(AllocError);
+    }
+    // Most of what it hears, and told without the room of all that it might hear.
+    if is_acknowledged(active.role(), message) {
+        let_entry_go(active.take_waiting());
+        return Ok(());
     }
     match active.receive(alloc, message, now) {
         Ok(heard) => {

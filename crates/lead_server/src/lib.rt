@@ -2,6 +2,7 @@
 //! back, so nothing here knows how many there are.
 #![tactic(auto)]
 
+mod again;
 mod hearing;
 mod lists;
 mod parting;

@@ -26,7 +26,7 @@ use Rattle.mirror.specs.declared.heard.Why.TheVariants.{Old as OldRequest, Ahead
 use Rattle.mirror.specs.declared.heard.Heard.{Heard}
 use Rattle.mirror.specs.Replicas.{ReplicaState}
 use Rattle.mirror.specs.Hearing.{ignored, repeated}
-use Rattle.mirror.specs.ByValue.{serving, IsAcceptedAt, judged_in, reply_kept, IsRequestByValue, IsReceiptByValue, IsHeardByValue}
+use Rattle.mirror.specs.ByValue.{serving, IsAcceptedAt, judged_in, reply_kept, reply_by, reply_again, IsRequestByValue, IsReceiptByValue, IsHeardByValue}
 use Rattle.mirror.specs.Pairing.{mirrors, mirrored, newest, IsMirroredByValue}
 use Rattle.mirror.specs.Preparing.{entry_by, held_back, number_next}
 use Rattle.mirror.specs.Reacting.{IsAgainByValue}
@@ -113,6 +113,45 @@ again-repeat service saved client number reply heard fit same tells is =
     let window = fit-window saved client fit in
     let found = tells window.0 (ap (λ value. window_in value client) same ∙ window.1) in
     judged-as saved client number window.0 Repeat heard window.1 (judged-repeat number (length window.0) found.0 (taken-within number window.0 reply found.1)) (reply, kept-reply saved client number window.0 reply window.1 found.0 found.1, is)
+
+-- the reply that a value gives again is the one that its service tells
+pub told-again : (service saved : Saved) (client number : ℕ) (reply : Reply) → IsFit saved → service ≡ saved → TellsOf service client (λ replies. (forgotten replies < number) × (taken_under number replies ≡ Some reply)) → Some reply ≡ reply_again saved client number
+told-again service saved client number reply fit same tells =
+    let window = fit-window saved client fit in
+    let found = tells window.0 (ap (λ value. window_in value client) same ∙ window.1) in
+    let next = next-is saved client window.0 window.1 in
+    let count : next_in saved client - 1 ≡ length window.0 = omega (arith, next) in
+    let repeat = ap (judged number) count ∙ judged-repeat number (length window.0) found.0 (taken-within number window.0 reply found.1) in
+    sym (ap (λ j. reply_by j (reply_kept saved client number)) repeat ∙ kept-reply saved client number window.0 reply window.1 found.0 found.1)
+
+none-by : (number count : ℕ) (judgement : Judged) (kept : Option Reply) → (judgement ≡ Repeat → ⊥) → judged number count ≡ judgement → None ≡ reply_by (judged number count) kept
+none-by number count judgement kept other is =
+    sym (ap (λ j. reply_by j kept) is ∙ none judgement other)
+  where
+    none : (j : Judged) → (j ≡ Repeat → ⊥) → reply_by j kept ≡ None
+    none New apart = refl
+    none Repeat apart = absurd (apart refl)
+    none Old apart = refl
+    none Ahead apart = refl
+
+untold-by : (number : ℕ) (replies : List Reply) (judgement : Told Reply) (kept : Option Reply) → ((reply : Bor Reply) → judgement ≡ told.Repeat reply → ⊥) → IsJudged number replies judgement → 0 < number → None ≡ reply_by (judged number (length replies)) kept
+untold-by number replies told.New kept other judged some =
+    none-by number (length replies) New kept (λ e. cc) (judged-new number (length replies) judged)
+untold-by number replies (told.Repeat reply) kept other judged some = absurd (other reply refl)
+untold-by number replies told.Old kept other judged some =
+    none-by number (length replies) Old kept (λ e. cc) (judged-old number (length replies) some judged)
+untold-by number replies told.Ahead kept other judged some =
+    none-by number (length replies) Ahead kept (λ e. cc) (judged-ahead number (length replies) judged)
+
+-- and it gives none where its service tells none
+pub untold-again : (service saved : Saved) (client number : ℕ) (judgement : Told Reply) → IsFit saved → service ≡ saved → ((reply : Bor Reply) → judgement ≡ told.Repeat reply → ⊥) → TellsOf service client (λ replies. IsJudged number replies judgement) → 0 < number → None ≡ reply_again saved client number
+untold-again service saved client number judgement fit same other tells some =
+    let window = fit-window saved client fit in
+    let judged_so = tells window.0 (ap (λ value. window_in value client) same ∙ window.1) in
+    let next = next-is saved client window.0 window.1 in
+    let count : length window.0 ≡ next_in saved client - 1 = omega (arith, next) in
+    untold-by number window.0 judgement (reply_kept saved client number) other judged_so some
+    ∙ ap (λ n. reply_by (judged number n) (reply_kept saved client number)) count
 
 -- a request that is not above the next one, not the next one and not repeated is old
 rest-by : (saved : Saved) (client number : ℕ) (replies : List Reply) (heard : Heard) (judgement : Told Reply) → window_in saved client ≡ window_of replies → ((reply : Bor Reply) → judgement ≡ told.Repeat reply → ⊥) → IsJudged number replies judgement → 0 < number → number ≢ next_in saved client → number ≤ next_in saved client → heard ≡ ignored OldRequest → IsAgainByValue saved client number (judged_in saved client number) heard

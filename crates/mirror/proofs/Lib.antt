@@ -1,3 +1,4 @@
+pub mod AgainLaws
 pub mod ByValueLaws
 pub mod HeardLaws
 pub mod HearingLaws

@@ -46,6 +46,14 @@ judged_in saved client number = judged number (next_in saved client - 1)
 abbrev pub reply_kept : Saved → (client number : ℕ) → Option Reply
 reply_kept saved client number = slice_get (window_in saved client).replies (next_in saved client - suc number)
 
+-- the reply that such a request gets again, if it gets one
+abbrev pub reply_by : Judged → Option Reply → Option Reply
+reply_by Repeat reply = reply
+reply_by _ reply = None
+
+abbrev pub reply_again : Saved → (client number : ℕ) → Option Reply
+reply_again saved client number = reply_by (judged_in saved client number) (reply_kept saved client number)
+
 -- a request that is judged so
 abbrev pub IsRequestByValue : Saved → ℕ → ℕ → Call → ℤ → Judged → Heard → ReplicaState → Type 0
 IsRequestByValue saved client number call now New heard server = IsAcceptedAt saved (Called client number now call) heard server

@@ -1,5 +1,5 @@
 -- Words of public clauses: what the active server makes of the entry in hand once it works.
-use Rattle.std.specs.Prelude.{List, [], Option, Some, None}
+use Rattle.std.specs.Prelude.{Bool, List, [], Option, Some, None, length, not, ◌==◌}
 use Rattle.stream_layout.specs.declared.deed.Deed.{Deed}
 use Rattle.wire.specs.declared.message.Message.{Message}
 use Rattle.mirror.specs.declared.heard.Outcome.TheVariants.{Worked}
@@ -11,6 +11,10 @@ use Rattle.mirror.specs.Replicas.{ReplicaState}
 abbrev pub deeds_in : Option Owed → List Deed
 deeds_in None = []
 deeds_in (Some owed) = owed.deeds
+
+-- its work makes calls of the disk
+abbrev pub has_deeds : Option Owed → Bool
+has_deeds owed = not (length (deeds_in owed) == 0)
 
 -- the reply to it, where it has one
 abbrev pub replies_in : Option Owed → List Message

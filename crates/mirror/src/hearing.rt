@@ -1,5 +1,5 @@
 //! What the active server makes of a message while nothing is in hand.
-ghost use Rattle.std.specs.Prelude.{◌≡◌, ◌≢◌, ◌<◌, List, [], IfOk, OnErr};
+ghost use Rattle.std.specs.Prelude.{◌≡◌, ◌≢◌, ◌<◌, List, [], option_copied, IfOk, IfSome, OnErr};
 ghost use Rattle.std.specs.Vec.{vec_capacity};
 ghost use Rattle.calls.specs.declared.entry.Entry.{Entry as EntryOf};
 ghost use Rattle.calls.specs.declared.saved.Saved.{Saved as SavedOf};
@@ -13,15 +13,15 @@ ghost use Rattle.service_laws.specs.PlainOf.{plain_of};
 ghost use Rattle.cluster_facts.specs.History.{judged_call};
 ghost use Rattle.cluster_facts.specs.Service.{is_new};
 ghost use Rattle.mirror.specs.Hearing.{CanHear, IsHeardAtRest, IsRequestHeard, IsReceiptHeard, ignored, accepted_alone, repeated};
-ghost use Rattle.mirror.specs.ByValue.{serving, replies_for, IsAcceptedAt, judged_in, IsRequestByValue, IsReceiptByValue, IsHeardByValue};
-ghost use Rattle.mirror.specs.Reacting.{IsAccepted, IsHeardAgain, IsAgainByValue};
+ghost use Rattle.mirror.specs.ByValue.{serving, replies_for, IsAcceptedAt, judged_in, reply_again, IsRequestByValue, IsReceiptByValue, IsHeardByValue};
+ghost use Rattle.mirror.specs.Reacting.{IsAccepted, IsHeardAgain, IsAgainByValue, IsPostedAgain};
 ghost use Rattle.mirror.specs.Preparing.{becomes_in};
 
 use crate::owed::Owed;
 use crate::pairing::one;
 use crate::{Heard, Outcome, Role, Why};
 use ais_values::{Duplicate, Seq};
-use calls::{Call, Entry, Reply};
+use calls::{Call, Entry, Reply, Shared};
 use client_window::Judged;
 use service_core::Service;
 use std::alloc::{AllocError, Global};
@@ -148,6 +148,19 @@ fn accept(service: &mut Service, alloc: Global, entry: Entry) -> Result<Reaction
     })
 }
 
+/// The reply that a request of this number gets again, where the service keeps it.
+pub(crate) fn kept_reply(service: &Service, client: u16, seq: u32) -> Option<&Reply>
+    requires { 0 < seq }
+    ensures again { IfSome result (λ reply. IsPostedAgain service.now client seq reply.now) }
+    ensures value { (saved : SavedOf) → IsFit saved → service.now ≡ saved →
+        option_copied result ≡ reply_again saved client seq }
+{
+    match service.judge(client, seq) {
+        Judged::Repeat { reply } => Some(reply),
+        _ => None,
+    }
+}
+
 /// What becomes of a request that is not the client's next.
 fn hear_again(service: &Service, alloc: Global, client: u16, seq: u32) -> Result<Heard, AllocError>
     requires number { 0 < seq }
@@ -175,7 +188,7 @@ fn hear_request(
     client: u16,
     seq: u32,
     now: i64,
-    call: &Call,
+    call: &Shared<Call>,
 ) -> Result<Reaction, AllocError>
     requires can { CanAcceptIn service.old client now }
     requires number { 0 < seq }

@@ -1,33 +1,34 @@
 //! A server of a pair: one is active, and the other follows it and takes over where it goes down.
-ghost use Rattle.std.specs.Prelude.{◌≡◌, ◌↔◌, IsTrue, IsSome, None, List, [], ◌∷◌, is_some, option_copied, IfOk, OnOk, OnErr, IsErrOf};
+ghost use Rattle.std.specs.Prelude.{◌≡◌, ◌<◌, ◌↔◌, ℤ, IsTrue, IsSome, None, List, [], ◌∷◌, is_some, option_copied, IfOk, IfSome, OnOk, OnErr, IsErrOf};
 ghost use Rattle.ais_values.specs.Causes.{RoseExactlyOn};
 ghost use Rattle.disk_model.specs.DeviceCalls.{Performs};
 ghost use Rattle.disk_model.specs.declared.answers.DiskAnswer.{DiskAnswer};
 ghost use Rattle.stream_layout.specs.Deeds.{calls_of_all};
+ghost use Rattle.calls.specs.declared.call.Call.{Call as CallOf};
 ghost use Rattle.calls.specs.declared.entry.Entry.{Entry as EntryOf};
+ghost use Rattle.calls.specs.declared.saved.Saved.{Saved as SavedOf};
 ghost use Rattle.plain_service.specs.Setups.{Setup};
 ghost use Rattle.plain_service.specs.Fitness.{IsFit};
 ghost use Rattle.service_laws.specs.PlainOf.{plain_of};
-ghost use Rattle.wire.specs.declared.message.Message.TheVariants.{JoinAck};
+ghost use Rattle.wire.specs.declared.message.Message.TheVariants.{Request, Reply as Answer, JoinAck};
 ghost use Rattle.mirror.specs.declared.heard.Role.TheVariants as role;
 ghost use Rattle.mirror.specs.declared.heard.Outcome.TheVariants.{Changed, Joined};
 ghost use Rattle.mirror.specs.Replicas.{HasService, HasRoom, down, started, number_in_hand, at_rest};
-ghost use Rattle.mirror.specs.Hearing.{CanHear};
-ghost use Rattle.mirror.specs.ByValue.{items_pushed};
-ghost use Rattle.mirror.specs.Working.{deeds_in, replies_in, worked};
+ghost use Rattle.mirror.specs.Hearing.{CanHear, repeated};
+ghost use Rattle.mirror.specs.ByValue.{serving, items_pushed, reply_again};
+ghost use Rattle.mirror.specs.Working.{deeds_in, has_deeds, replies_in, worked};
 ghost use Rattle.mirror.specs.Pairing.{alone, joining, sent, IsJoinBegun, parted, worked_out, with_peer, deeds_kept, keeps_deeds};
 ghost use Rattle.mirror.specs.Pairing.{taken_over, confirmed, IsHeard, IsFollowed, IsReceived, IsNextEntry, CanApplyIn, CanReceive, Admits};
 ghost use Rattle.mirror.specs.InsideNode.{state_in, IsOpen};
 
-use crate::hearing::ignore;
-use crate::pairing::{has_room, is_next, one, restored, send};
+use crate::hearing::{ignore, kept_reply};
+use crate::pairing::{can_join, has_room, is_next, one, restored, send};
 use crate::parts::push_items;
 use crate::state::NodeState;
 use crate::{Heard, Outcome, Role, Why};
 use ais_values::Seq;
-use calls::{Entry, Saved};
+use calls::{Entry, Reply, Saved};
 use disk_model::{DiskAnswer, SharedDisk};
-use saved_fit::is_fit;
 use service_core::Service;
 use std::alloc::{AllocError, Global};
 use std::marker::Model;
@@ -35,7 +36,7 @@ use std::mem::replace;
 use wire::Message;
 
 /// What ties the active server to its partner.
-#[derive(Clone, Copy, PartialEq, Eq, Debug)]
+#[derive(Clone, Copy)]
 pub enum Tie {
     /// Nothing.
     Apart,
@@ -197,6 +198,18 @@ impl Node {
         }
     }
 
+    /// Whether the entry in hand has deeds to be done on the disk; without one there are none.
+    pub fn has_deeds(&self) -> bool
+        ensures { result ≡ has_deeds self.now.replica.owed }
+    {
+        match &self.server {
+            Server::Down => false,
+            Server::Joining => false,
+            Server::Fresh { .. } => false,
+            Server::Serving { state } => state.replica.has_deeds(),
+        }
+    }
+
     /// The entry in hand that waits until the partner has it.
     pub fn waiting(&self) -> Option<&Entry>
         ensures { option_copied result ≡ self.now.waits }
@@ -345,6 +358,27 @@ impl Node {
         }
     }
 
+    /// The reply that the active server asks to be posted again where it hears this client's call of this number, which is at least 1, at
+    /// any moment and whatever the call is; nothing else changes then. `None` where an entry is in hand, and by each fit value of the service
+    /// exactly where it keeps no reply to such a call. It takes no memory.
+    pub fn reply_again(&self, client: u16, seq: u32) -> Option<&Reply>
+        requires role { self.now.replica.role ≡ role.Active }
+        requires number { 0 < seq }
+        ensures again { IfSome result (λ reply. (call : CallOf) (now : ℤ) → IsHeard
+            (Request client seq call) now self.now (repeated (Answer client seq reply.now))
+            self.now) }
+        ensures hand { IsSome self.now.replica.owed → result ≡ None }
+        ensures value { (saved : SavedOf) → IsFit saved → self.now.replica ≡ serving saved None →
+            option_copied result ≡ reply_again saved client seq }
+    {
+        match &self.server {
+            Server::Down => None,
+            Server::Joining => None,
+            Server::Fresh { service, .. } => kept_reply(service, client, seq),
+            Server::Serving { state } => state.replica.reply_again(client, seq),
+        }
+    }
+
     /// The active server hears a message of the net, as `receive` says of requests and receipts. Any other one is ignored: as busy while
     /// an entry is in hand, and else as not for its role. Fewer than 4,000,000,000 entries were accepted. `Err` comes only for want of
     /// memory, and nothing changes then.
@@ -461,7 +495,7 @@ impl Node {
     {
         let _ = now;
         match message {
-            Message::Snapshot { saved } => self.join(alloc, saved),
+            Message::Snapshot { saved } => self.join(alloc, saved.get()),
             _ => Ok(ignore(
                 alloc,
                 Why::NotForRole {
@@ -491,7 +525,7 @@ impl Node {
     {
         let _ = alloc;
         match message {
-            Message::Snapshot { saved } => { Ok(self.role() == Role::Joining && is_fit(saved)) }
+            Message::Snapshot { saved } => { Ok(self.role() == Role::Joining && can_join(saved)) }
             Message::Mirror { number, entry } => {
                 Ok(self.role() == Role::Standby && self.follows(*number, entry))
             }

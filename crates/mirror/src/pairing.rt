@@ -23,7 +23,8 @@ use crate::node::Tie;
 use crate::replica::Replica;
 use crate::{Heard, Outcome};
 use ais_values::{Duplicate, Seq};
-use calls::{Entry, Saved};
+use calls::{Boxed, Entry, Saved};
+use saved_fit::is_fit;
 use service_core::Service;
 use std::alloc::{AllocError, Global};
 use std::mem::replace;
@@ -85,7 +86,15 @@ pub(crate) fn snapshot_of(service: &Service, alloc: Global) -> Result<Seq<Messag
     ensures { IfOk result (λ messages. messages ≡ Snapshot service.now ∷ []) }
 {
     let saved = service.save(alloc)?;
+    let saved = Boxed::new(alloc, saved)?;
     one(alloc, Message::Snapshot { saved })
+}
+
+/// Whether a server can join with a value: it is fit.
+pub(crate) fn can_join(saved: &Boxed<Saved>) -> bool
+    ensures { IsTrue result ↔ IsFit saved.now }
+{
+    is_fit(saved.get())
 }
 
 /// The service of a fit value.

@@ -1,5 +1,5 @@
 //! The replica of the service that a server of the cluster has, and its role.
-ghost use Rattle.std.specs.Prelude.{◌≡◌, ◌≢◌, ◌↔◌, IsTrue, suc, List, [], ◌∷◌, Some, None, length, is_some, IsSome, IfOk, OnErr, IsErrOf};
+ghost use Rattle.std.specs.Prelude.{◌≡◌, ◌≢◌, ◌<◌, ◌↔◌, IsTrue, suc, List, [], ◌∷◌, Some, None, length, is_some, option_copied, IsSome, IfOk, IfSome, OnErr, IsErrOf};
 ghost use Rattle.ais_values.specs.Causes.{RoseExactlyOn};
 ghost use Rattle.disk_model.specs.DeviceCalls.{Performs};
 ghost use Rattle.disk_model.specs.declared.answers.DiskAnswer.{DiskAnswer};
@@ -16,18 +16,19 @@ ghost use Rattle.mirror.specs.declared.owed.Owed.{Owed as OwedOf};
 ghost use Rattle.mirror.specs.declared.heard.Why.TheVariants.{Busy, NotForRole};
 ghost use Rattle.mirror.specs.Replicas.{HasRoom, down, started, number_of, number_in_hand, at_rest, at_work};
 ghost use Rattle.mirror.specs.Hearing.{CanHear, IsHeardAtRest, ignored};
-ghost use Rattle.mirror.specs.ByValue.{serving, IsHeardByValue, items_pushed};
-ghost use Rattle.mirror.specs.Working.{deeds_in, replies_in, worked, emptied};
+ghost use Rattle.mirror.specs.ByValue.{serving, reply_again, IsHeardByValue, items_pushed};
+ghost use Rattle.mirror.specs.Working.{deeds_in, has_deeds, replies_in, worked, emptied};
 ghost use Rattle.mirror.specs.Pairing.{joining, snapshots, acting, CanApplyIn, IsNextEntry};
 ghost use Rattle.mirror.specs.Preparing.{number_next, wanted_by, HasApplied, HasAppliedTo};
+ghost use Rattle.mirror.specs.Reacting.{AnswersAgain};
 
-use crate::hearing::{becomes_next, ignore};
+use crate::hearing::{becomes_next, ignore, kept_reply};
 use crate::owed::Owed;
 use crate::pairing::{apply_mirrored, has_room, is_next, snapshot_of};
 use crate::parts::{do_deeds, hear_or_ignore, post_owed, push_items};
 use crate::{Heard, Role, Why};
 use ais_values::Seq;
-use calls::Entry;
+use calls::{Entry, Reply};
 use disk_model::{DiskAnswer, SharedDisk};
 use service_core::Service;
 use std::alloc::{AllocError, Global};
@@ -136,6 +137,16 @@ impl Replica {
         self.owed.is_some()
     }
 
+    /// Whether the entry in hand has deeds to be done on the disk; without one there are none.
+    pub(crate) fn has_deeds(&self) -> bool
+        ensures { result ≡ has_deeds self.now.owed }
+    {
+        match &self.owed {
+            None => false,
+            Some(owed) => !owed.deeds.as_slice().is_empty(),
+        }
+    }
+
     /// Hears a message at a moment, from 0 to 9,000,000,000,000,000,000; a request or a receipt is that of a client
     /// from 1 to 4,096, and a request's number is at least 1. Fewer than 4,000,000,000 entries were accepted.
     ///
@@ -189,6 +200,23 @@ impl Replica {
         match &self.service {
             None => false,
             Some(service) => becomes_next(service, message),
+        }
+    }
+
+    /// The reply that a request of this number gets again, where nothing is in hand and the service keeps it.
+    pub(crate) fn reply_again(&self, client: u16, seq: u32) -> Option<&Reply>
+        requires { 0 < seq }
+        ensures again { IfSome result (λ reply. AnswersAgain self.now client seq reply.now) }
+        ensures hand { IsSome self.now.owed → result ≡ None }
+        ensures value { (saved : SavedOf) → IsFit saved → self.now ≡ serving saved None →
+            option_copied result ≡ reply_again saved client seq }
+    {
+        match &self.owed {
+            Some(_) => None,
+            None => match &self.service {
+                None => None,
+                Some(service) => kept_reply(service, client, seq),
+            },
         }
     }
 

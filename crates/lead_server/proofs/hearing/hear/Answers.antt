@@ -1,12 +1,33 @@
-use Rattle.std.proofs.Common.{ℤ, List, w64, inr, ap, ◌∙◌, subst}
+use Rattle.std.proofs.Common.{ℤ, List, w64, inr, refl, ap, sym, ◌∙◌, subst, append-nil}
 use Rattle.std.proofs.lemmas.Int.{to_z-of_z}
 use Rattle.std.proofs.lemmas.Result.{IfOk-weaker, on_err_weaker}
 use Rattle.calls.specs.History.{Pushed}
 use Rattle.cluster_facts.specs.Types.{Entry}
+use Rattle.mirror.specs.Hearing.{repeated}
 use Rattle.mirror.specs.Pairing.{IsHeard}
 use Rattle.lead_server.specs.Told.{IsTold}
 use Rattle.lead_server.proofs.HearSteps.{both-err, ok-with}
 use Rattle.lead_server.proofs.hearing.hear.Goals as goal
+
+pub is_answered-requires-clause-range : goal.is_answered-requires-clause-range
+is_answered-requires-clause-range c = λ answer again.
+    (c.requires.range (repeated answer) c.args.active.now (again c.args.now)).0
+
+pub returns-then-answered-clause-ok : goal.returns-then-answered-clause-ok
+returns-then-answered-clause-ok c =
+    let a = c.args in
+    let said = c.in_ok-answered.ensures c.if-answered.true in
+    record {
+      room = c.has_room.ensures.0 c.if-not-has_room.false;
+      heard = repeated said.0;
+      hears = said.1 a.now;
+      told = record {
+        between = a.lines.now.items;
+        posts = said.2 a.lines.now.items;
+        commits = (refl, sym (append-nil a.lines.now.items));
+      };
+      beside = c.new.ensures;
+    }
 
 pub tell_heard-requires-clause-range : goal.tell_heard-requires-clause-range
 tell_heard-requires-clause-range c =
