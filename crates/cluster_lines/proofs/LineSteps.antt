@@ -1,11 +1,6 @@
 -- What a line of a script comes to, event by event.
-use Rattle.std.proofs.Common.{◌≡◌, ℕ, true, false, is_some, ℤ, inl, inr, Option, Some, None, List, ◌++◌, Result, Ok, Err, refl, ap, sym, ◌∙◌, subst, arith}
-use Rattle.std.specs.Prelude.{Bool, OnOk, IfSome, ◌≤ℤ◌, pos, negsuc}
-use Rattle.std.proofs.lemmas.Bool.{leb-true}
-use Rattle.std.proofs.lemmas.Int.{to_z-of_z}
-use mir.Syntax.{w64}
-use mir.Val.{to_z, of_z}
-use Rattle.ais_values.proofs.Basics.{true_from_T}
+use Rattle.std.proofs.Common.{◌≡◌, ℕ, true, false, is_some, ℤ, inl, inr, Option, Some, None, List, ◌++◌, Result, Ok, Err, refl, ap, sym, ◌∙◌, subst}
+use Rattle.std.specs.Prelude.{Bool, OnOk, IfSome, ◌≤ℤ◌}
 use Rattle.disk_model.specs.Disk.{Files}
 use Rattle.disk_model.specs.Seen.{DiskSeen}
 use Rattle.disk_model.specs.declared.answers.DiskAnswer.{DiskAnswer}
@@ -83,11 +78,6 @@ looks-own line.Files held done old new own = cc
 looks-own (line.Cat name) held done old new own = cc
 looks-own line.Settle held done old new own = tt
 looks-own next held done old new own = λ shared. cc
-
--- a moment fits the code's time
-pub moment-same : (now : ℤ) → IsMoment now → to_z w64 (of_z w64 now) ≡ now
-moment-same (pos n) moment = let to = leb-true n 9000000000000000000 (true_from_T _ moment.to.le) in to_z-of_z w64 (pos n) (record { sfits = omega arith })
-moment-same (negsuc n) moment = absurd moment.from.le
 
 -- a line of the servers' own that can be played is one that they play
 pub owns : {P V : Type 0} (script : Script P V) (now : ℤ) (next : Line) → is_own next ≡ true → CanPlay script now next → IsOwn script next

@@ -15,7 +15,7 @@ use Rattle.cluster_facts.specs.History.{Empty}
 use Rattle.cluster_clients.specs.declared.answer.EventAnswer.{EventAnswer}
 use Rattle.cluster_clients.specs.declared.answer.EventAnswer.TheVariants.{Memory, DiskFault}
 use Rattle.group_cluster.specs.Group.{group_start}
-use Rattle.group_servers.specs.GroupNodes.{active_by}
+use Rattle.lead_rounds.specs.Nodes.{active_by}
 
 -- the attributes that a cluster line gives to the well-known streams
 abbrev pub wells_of : WellOptions → WellOptions → WellOptions → List StreamAttrs

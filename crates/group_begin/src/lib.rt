@@ -5,7 +5,7 @@ ghost use Rattle.std.specs.Prelude.{◌≡◌, false, [], IfOk};
 ghost use Rattle.ais_values.specs.declared.kind.StreamKind.TheVariants.{Alarm, Notification, System};
 ghost use Rattle.plain_service.specs.Setups.{Setup};
 ghost use Rattle.service_core.specs.Beginning.{BeginsAs, CanBeginAs};
-ghost use Rattle.group_servers.specs.GroupNodes.{standby_by};
+ghost use Rattle.lead_rounds.specs.Nodes.{standby_by};
 ghost use Rattle.group_begin.specs.Starting.{wells_of, Starts, broken_by};
 
 use ais_values::{Seq, StreamKind};

@@ -29,7 +29,8 @@ use Rattle.group_servers.specs.Delivered.{TakesBack, ConfirmsBy, ConfirmsLast}
 use Rattle.group_servers.specs.Delivered.TakesBack.{nothing, first, later}
 use Rattle.group_servers.specs.Seats.{is_confirmation, still_waits}
 use Rattle.group_servers.specs.GroupKit.{group_kit}
-use Rattle.group_servers.specs.GroupNodes.{is_linked, waits_by, from_server, active_by, seat_by, seats_by}
+use Rattle.lead_rounds.specs.Leading.{waits_by}
+use Rattle.group_servers.specs.GroupNodes.{is_linked, from_server, active_by, seat_by, seats_by}
 use Rattle.group_servers.proofs.DeliverSteps.{first-of, rest-of, of-these, of-none, these-turns, turn_of}
 use Rattle.group_servers.proofs.GoodSteps.{active-by}
 use Rattle.group_servers.proofs.GroupSteps.{turn-step}
@@ -204,7 +205,7 @@ unwaited (Ready entry) owns waits none = refl
 confirmed-by : (setup : Setup) (past : List Entry) (hand : Hand) (owns : List defined.Seat) (message : Message) (active : Node) (confirms waits : Bool) → is_confirmation message ≡ confirms → (confirms ≡ false → waits ≡ false → waits_by hand ≡ None) → ConfirmsBy (confirms && not waits) message (active_by setup past hand owns) active → active ≡ record (active_by setup past hand owns) { waits = waits_while waits (waits_by hand) }
 confirmed-by setup past hand owns message active true false is none confirmed =
     let R : Role → Type 0 = λ r. IsReceived r message confirmed.moment (active_by setup past hand owns) confirmed.heard active in
-    confirmed-none message confirmed.moment (active_by setup past hand owns) confirmed.heard active is (subst R (active-by setup past hand owns) confirmed.received)
+    confirmed-none message confirmed.moment (active_by setup past hand owns) confirmed.heard active is (subst R (active-by setup past hand (any_seat is_linked owns)) confirmed.received)
 confirmed-by setup past hand owns message active true true is none confirmed = confirmed
 confirmed-by setup past hand owns message active false true is none confirmed = confirmed
 confirmed-by setup past hand owns message active false false is none confirmed =

@@ -41,6 +41,7 @@ use Rattle.cluster_rounds.proofs.FilesSteps.{left-between}
 use Rattle.cluster_rounds.specs.Seen.{counters_of}
 use Rattle.cluster_lines.specs.Own.{DoesOn}
 use Rattle.cluster_lines.specs.Playing.{BreaksOff, EndsLine, LineEnded}
+use Rattle.lead_rounds.proofs.LeadSteps.{answered-history, accepted-history}
 use Rattle.group_servers.specs.declared.group.Seat.{Seat}
 use Rattle.group_servers.specs.declared.group.Group.{Group}
 use Rattle.group_servers.specs.Caught.{CatchesIf, PutsCaught, taken_if}
@@ -51,7 +52,8 @@ use Rattle.group_servers.specs.GroupCounts.{CountsCrash, CrashEnded, Crashed, Fa
 use Rattle.group_servers.specs.GroupCounts.LacksCrash.{Taking}
 use Rattle.group_servers.specs.GroupKit.{group_kit, group_script}
 use Rattle.group_servers.specs.GroupLaws.{group_laws}
-use Rattle.group_servers.specs.GroupNodes.{active_by, waits_by, seats_by, bare}
+use Rattle.lead_rounds.specs.Leading.{waits_by}
+use Rattle.group_servers.specs.GroupNodes.{active_by, seats_by, bare}
 use Rattle.group_servers.specs.GroupUses.{spent-as}
 use Rattle.group_servers.specs.Parted.{leads}
 use Rattle.group_servers.specs.Prepared.{Prepares, Falls, fell}
@@ -66,7 +68,6 @@ use Rattle.group_servers.proofs.EndSteps.{ended-as}
 use Rattle.group_servers.proofs.FallLines.{takers-named, takers-wayless}
 use Rattle.group_servers.proofs.FallShows.{TellsCount}
 use Rattle.group_servers.proofs.FallSteps.{wayless-bare, caught-bare, fit-seats, few-of, count-some, tried, failed-are, took-own, took-lines, took-unarmed, took-later, took-caused, took-up, took-files, plain-good, stale, fell-fell, fell-lines, fell-last, fell-calls, fell-files, fell-many, fell-up, all-tried, named-long, partly-armed, partly-unarmed, tries-unarmed}
-use Rattle.group_servers.proofs.GoodSteps.{answered-history, accepted-history}
 use Rattle.group_servers.proofs.GroupFiles.{rest-goes-on, some-calls-so}
 use Rattle.group_servers.proofs.MadeSteps.{tries-still}
 use Rattle.group_servers.proofs.MirrorSteps.{may-come}
@@ -207,13 +208,13 @@ module _ (n : ℕ) where
     -- the seats then
     seats-are : all_wayless mid.servers.seats ≡ bare setup past (caught_hand catching_so hand) owns
     seats-are =
-        prepared-seats setup past hand state.peers.seats catching_so old.servers.seats mid.servers.seats refl (answered-history n setup state good) (may-come n setup state good) (ap (λ (servers : Group n). servers.seats) shows.own)
+        prepared-seats setup past hand state.peers.seats catching_so old.servers.seats mid.servers.seats refl (answered-history (group_kit n) (group_laws n) setup state good) (may-come n setup state good) (ap (λ (servers : Group n). servers.seats) shows.own)
         (subst (λ b. CatchesIf b old.servers.seats mid.servers.seats) catching-is prepared.caught)
 
     -- they are fit
     pub prepared-fit : AllByRecursion IsFitSeat mid.servers.seats
     prepared-fit =
-        fit-seats setup past (caught_hand catching_so hand) owns mid.servers.seats (answered-history n setup state good) (subst (λ (h : List Entry). IsHistory setup h) (sym (caught-accepts past catching_so hand)) (accepted-history n setup state good)) seats-are
+        fit-seats setup past (caught_hand catching_so hand) owns mid.servers.seats (answered-history (group_kit n) (group_laws n) setup state good) (subst (λ (h : List Entry). IsHistory setup h) (sym (caught-accepts past catching_so hand)) (accepted-history (group_kit n) (group_laws n) setup state good)) seats-are
 
     fresh-so : any_seat is_fresh owns ≡ fresh
     fresh-so =

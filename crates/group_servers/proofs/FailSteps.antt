@@ -37,11 +37,11 @@ use Rattle.cluster_rounds.specs.Worlds.{Does, Happened, IsGood, LeavesFiles, Sho
 use Rattle.cluster_rounds.proofs.FilesSteps.{left-same}
 use Rattle.cluster_rounds.specs.Seen.{counters_of}
 use Rattle.cluster_lines.specs.Own.{DoesOn}
+use Rattle.lead_rounds.proofs.GroupSteps.{unasked-borne}
 use Rattle.group_servers.specs.declared.group.Seat.{Seat}
 use Rattle.group_servers.specs.declared.group.Group.{Group}
 use Rattle.group_servers.specs.GroupCounts.{CountsCrash}
 use Rattle.group_servers.specs.GroupKit.{group_kit, group_script}
-use Rattle.group_servers.specs.GroupLaws.{unasked-borne}
 use Rattle.group_servers.specs.GroupNodes.{seats_by}
 use Rattle.group_servers.specs.GroupScript.{calm-uses}
 use Rattle.group_servers.specs.GroupUses.{spent-none}

@@ -1,106 +1,63 @@
--- What holds of a good state of servers, and the conditions of what the active one is called with.
-use Rattle.std.proofs.Common.{◌≡◌, ℕ, ℤ, List, refl, ap, sym, ◌∙◌, subst, arith}
-use Rattle.std.specs.Prelude.{Result, Ok, Err, IfOk}
-use mir.Syntax.{w64}
-use mir.Val.{to_z, of_z}
-use Rattle.wire.specs.declared.message.Message.TheVariants.{Request, Receipt}
-use Rattle.wire.specs.declared.message.Message.{Message}
-use Rattle.wire.specs.MessageSpelling.{MessageInRange}
-use Rattle.plain_service.specs.Setups.{Setup, IsMoment}
-use Rattle.plain_service.specs.Legal.{IsHistory}
-use Rattle.service_laws.specs.PlainOf.{plain_of}
-use Rattle.service_laws.proofs.ServiceLaws.{is_plain}
-use Rattle.service_laws.proofs.HistoryLaws.{history-of}
+-- The active server of a good state, and what is left where nothing but servers and lines changed.
+use Rattle.std.proofs.Common.{◌≡◌, ℕ, Bool, List, refl, ap, sym, ◌∙◌, subst}
+use Rattle.plain_service.specs.Setups.{Setup}
 use Rattle.cluster_facts.specs.Types.{Entry}
-use Rattle.cluster_facts.specs.Lists.{Stands}
-use Rattle.cluster_facts.specs.Messages.{messages_in}
-use Rattle.cluster_facts.specs.History.{Hand, Empty, Waiting, Applied, Ready, accepted, accepted_by}
+use Rattle.cluster_facts.specs.History.{Hand, Empty, Waiting, Applied, Ready}
 use Rattle.cluster_events.specs.Servers.{State}
-use Rattle.cluster_events.specs.Serving.{IsSteady}
-use Rattle.cluster_events.proofs.Carrying.{Goes, hear-goes}
 use Rattle.mirror.specs.declared.heard.Role.TheVariants.{Active}
-use Rattle.mirror.specs.declared.heard.Heard.{Heard}
 use Rattle.mirror.specs.declared.state.NodeState.{NodeState as Node}
-use Rattle.mirror.specs.Hearing.{CanHear}
-use Rattle.mirror.specs.Pairing.{IsHeard}
-use Rattle.group_cluster.specs.Seats.{Peers, IsGroup}
-use Rattle.group_cluster.specs.Seats as defined
-use Rattle.cluster_lines.proofs.LineSteps.{moment-same}
+use Rattle.mirror.specs.Replicas.{at_rest}
+use Rattle.group_cluster.specs.Seats.{Peers, any_seat}
 use Rattle.cluster_rounds.specs.declared.cluster.Cluster.{Cluster}
-use Rattle.cluster_rounds.specs.Kits.{servers_at}
-use Rattle.cluster_rounds.specs.PartlyDone.{SaysUnasked}
-use Rattle.cluster_rounds.specs.Worlds.{IsGood, HasState, heard_by}
-use Rattle.cluster_rounds.proofs.KitSteps.{calm-serves, calm-unasked}
-use Rattle.cluster_events.specs.Outcomes.{Outcome}
+use Rattle.cluster_rounds.specs.Worlds.{IsGood, IsIdle, HasState, Shows}
+use Rattle.disk_model.specs.Seen.{DiskSeen}
+use Rattle.cluster_clients.specs.Spelled.{AreSpelled}
+use Rattle.cluster_clients.specs.Clients.{ShowsAgents}
+use Rattle.cluster_rounds.specs.Broken.{Broken, BreaksAlone}
+use Rattle.cluster_rounds.proofs.BrokenClients.{same-breaks}
+use Rattle.cluster_rounds.proofs.BrokenSteps.{armed-shown, nothing-broken}
+use Rattle.lead_rounds.specs.Leading.{lead_by}
+use Rattle.lead_rounds.proofs.PushSteps.{rests-in}
 use Rattle.group_servers.specs.declared.group.Group.{Group}
 use Rattle.group_servers.specs.GroupKit.{group_kit}
 use Rattle.group_servers.specs.GroupLaws.{group_laws}
-use Rattle.group_servers.specs.GroupNodes.{active_by}
+use Rattle.group_servers.specs.GroupNodes.{is_linked}
 
--- Histories and roles.
-
-answered-by : (setup : Setup) (past : List Entry) (hand : Hand) → IsHistory setup (accepted_by past hand) → IsHistory setup past
-answered-by setup past Empty history = history
-answered-by setup past (Waiting entry) history = history.1
-answered-by setup past (Applied entry) history = history.1
-answered-by setup past (Ready entry) history = history.1
-
-pub active-by : (setup : Setup) (past : List Entry) (hand : Hand) (owns : List defined.Seat) → (active_by setup past hand owns).replica.role ≡ Active
-active-by setup past Empty owns = refl
-active-by setup past (Waiting entry) owns = refl
-active-by setup past (Applied entry) owns = refl
-active-by setup past (Ready entry) owns = refl
-
-can-hear : (message : Message) (now : ℤ) → MessageInRange message → IsMoment now → CanHear message now
-can-hear (Request client number call) now range moment =
-    let first = range.1.least in
-    (record { from = range.0.least; to = range.0.most }, omega arith, moment)
-can-hear (Receipt client key through) now range moment = (record { from = range.0.least; to = range.0.most }, moment)
-can-hear _ now range moment = tt
-
--- Clauses on one result.
-
-pub both-ok : {T E : Type 0} (r : Result T E) (P Q : T → Type 0) → IfOk r P → IfOk r Q → IfOk r (λ x. P x × Q x)
-both-ok (Ok x) P Q one other = (one, other)
-both-ok (Err e) P Q one other = tt
+pub active-by : (setup : Setup) (past : List Entry) (hand : Hand) (linked : Bool) → (lead_by setup past hand linked).replica.role ≡ Active
+active-by setup past Empty linked = refl
+active-by setup past (Waiting entry) linked = refl
+active-by setup past (Applied entry) linked = refl
+active-by setup past (Ready entry) linked = refl
 
 module _ (n : ℕ) where
-  -- Histories.
+  -- The active server leads, by whether entries go to others.
 
-  pub accepted-history : (setup : Setup) (state : State Peers) → IsGood (group_kit n) setup state → IsHistory setup (accepted state.world.core)
-  accepted-history setup state good =
-      history-of setup good.begins state.world.now (accepted state.world.core) good.steady.sound.facts.legal good.range
-
-  pub answered-history : (setup : Setup) (state : State Peers) → IsGood (group_kit n) setup state → IsHistory setup state.world.core.answered
-  answered-history setup state good =
-      answered-by setup state.world.core.answered state.world.core.hand (accepted-history setup state good)
+  pub lead-so : (setup : Setup) (state : State Peers) (old : Cluster (Group n)) → Shows (group_kit n) setup state old → old.servers.active ≡ lead_by setup state.world.core.answered state.world.core.hand (any_seat is_linked state.peers.seats)
+  lead-so setup state old shows = ap (λ (servers : Group n). servers.active) shows.own
 
   pub is-active : (world : Cluster (Group n)) → HasState (group_kit n) world → world.servers.active.replica.role ≡ Active
   is-active world has =
       let core = has.state.world.core in
-      ap (λ (servers : Group n). servers.active.replica.role) has.shows.own ∙ active-by has.setup core.answered core.hand has.state.peers.seats
+      ap (λ (node : Node). node.replica.role) (lead-so has.setup has.state world has.shows)
+      ∙ active-by has.setup core.answered core.hand (any_seat is_linked has.state.peers.seats)
 
-  -- The moment that a world is at.
+  -- with nothing in hand nothing is owed
+  pub rests-so : (setup : Setup) (state : State Peers) (old : Cluster (Group n)) → Shows (group_kit n) setup state old → IsIdle state → old.servers.active.replica ≡ at_rest setup state.world.core.answered
+  rests-so setup state old shows idle =
+      rests-in setup state.world.core.answered state.world.core.hand (any_seat is_linked state.peers.seats) old.servers.active (lead-so setup state old shows) idle
 
-  pub moment-of : (world : Cluster (Group n)) → HasState (group_kit n) world → IsMoment world.now
-  moment-of world has = subst IsMoment (sym has.shows.now) has.good.moment
+  -- What is left where memory was wanting and nobody was told.
 
-  pub hear-conditions : (world : Cluster (Group n)) (message : Message) → HasState (group_kit n) world → MessageInRange message → CanHear message (to_z w64 (of_z w64 world.now))
-  hear-conditions world message has range =
-      let moment = moment-of world has in
-      subst (λ now. CanHear message now) (sym (moment-same world.now moment)) (can-hear message world.now range moment)
+  -- **nothing but servers and lines changed, and room for an entry was taken**
+  pub untold-breaks : (setup : Setup) (state : State Peers) (held : DiskSeen) (old new : Cluster (Group n)) → IsGood (group_kit n) setup state → Shows (group_kit n) setup state old → new.net ≡ old.net → new.agents ≡ old.agents → new.history.entries ≡ old.history.entries → new.now ≡ old.now → new.servers.armed ≡ old.servers.armed → (Broken (group_kit n)) setup state held held new
+  untold-breaks setup state held old new good shows net agents history now armed =
+      (nothing-broken (group_kit n) (group_laws n)) setup state held new good
+      (subst (λ n. AreSpelled state.world.net n) (sym net) shows.net)
+      (subst (λ a. ShowsAgents state.world a) (sym agents) shows.agents)
+      (history ∙ shows.history) (now ∙ shows.now)
+      (λ is. armed ∙ (armed-shown (group_kit n) (group_laws n)) setup state held old shows is)
 
-  -- What hearing a message leads to.
-
-  abbrev pub GoesSo : Setup → State Peers → Outcome (State Peers) → Type 0
-  GoesSo setup state outcome = Goes (SaysUnasked (plain_of setup)) (IsSteady (plain_of setup) (IsGroup n)) state outcome
-
-  pub heard-goes : (setup : Setup) (place : ℕ) (message : Message) (state : State Peers) → IsGood (group_kit n) setup state → Stands message (messages_in state.world.net) → GoesSo setup state (heard_by (group_kit n) place message setup state)
-  heard-goes setup place message state good stands =
-      let plain = plain_of setup in
-      hear-goes plain (is_plain setup) (servers_at (group_kit n) setup (λ number. 0)) (IsGroup n) ((calm-serves (group_kit n) (group_laws n)) setup) (SaysUnasked plain) ((calm-unasked (group_kit n) (group_laws n)) setup) place message state stands good.steady
-
-  -- what the active server answered at that moment
-  pub heard-then : (world : Cluster (Group n)) (message : Message) (heard : Heard) (new : Node) → HasState (group_kit n) world → IsHeard message (to_z w64 (of_z w64 world.now)) world.servers.active heard new → IsHeard message world.now world.servers.active heard new
-  heard-then world message heard new has is =
-      subst (λ now. IsHeard message now world.servers.active heard new) (moment-same world.now (moment-of world has)) is
+  -- nothing changed
+  pub same-untold : (old new : Cluster (Group n)) → new ≡ old → BreaksAlone (group_kit n) old new
+  same-untold old new is =
+      subst (λ (world : Cluster (Group n)). BreaksAlone (group_kit n) old world) (sym is) ((same-breaks (group_kit n) (group_laws n)) old)

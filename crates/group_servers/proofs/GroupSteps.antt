@@ -33,8 +33,8 @@ use Rattle.cluster_rounds.specs.Rounds.{advances_by}
 use Rattle.cluster_rounds.specs.Worlds.{IsGood}
 use Rattle.cluster_rounds.proofs.CameSteps.{ends-longer}
 use Rattle.cluster_rounds.proofs.HearSteps.{IsQuiet, quiet-answer}
+use Rattle.lead_rounds.proofs.GroupSteps.{unasked-borne}
 use Rattle.group_servers.specs.GroupKit.{group_kit}
-use Rattle.group_servers.specs.GroupLaws.{unasked-borne}
 
 -- What the lines of a step tell: they are all printed, and are loud where the history grew.
 

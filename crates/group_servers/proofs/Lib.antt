@@ -2,11 +2,8 @@ pub mod SeatSteps
 pub mod NameSteps
 pub mod LookSteps
 pub mod GoodSteps
-pub mod HeldSteps
 pub mod SpreadSteps
-pub mod HearBroken
 pub mod HearSteps
-pub mod PushSteps
 pub mod DeliverSteps
 pub mod GroupSteps
 pub mod MirrorSteps
@@ -27,6 +24,8 @@ pub mod FallSteps
 pub mod DoneSteps
 pub mod DealSteps
 pub mod WorkSteps
+pub mod StillSteps
+pub mod OwingSteps
 pub mod OverSteps
 pub mod EndSteps
 pub mod WorkFalls

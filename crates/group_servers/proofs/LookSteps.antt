@@ -12,8 +12,8 @@ use Rattle.group_cluster.specs.Seats.{Clear, Sent, Took, Stance, Out, Owed, Link
 use Rattle.group_cluster.specs.Falling.{taken_by, looked_at, commitment}
 use Rattle.group_cluster.specs.Group.{Turn, first_turn}
 use Rattle.group_cluster.proofs.Seating.{AllSeats, Turned, IsTurning, any-none, is-turned, turned-all}
-use Rattle.group_servers.specs.declared.group.Seat.{Seat}
-use Rattle.group_servers.specs.GroupNodes.{serving_by, waits_by, active_by, seat_by, seats_by}
+use Rattle.lead_rounds.specs.Leading.{serving_by, waits_by}
+use Rattle.group_servers.specs.GroupNodes.{active_by, seat_by, seats_by}
 use Rattle.group_servers.proofs.SeatSteps.{at}
 
 -- The others: nothing of an entry that is on no link changes.

@@ -26,13 +26,15 @@ use Rattle.cluster_clients.specs.Clients.{ShowsAgents}
 use Rattle.cluster_clients.proofs.DispatchSteps.{agents-as}
 use Rattle.cluster_rounds.specs.declared.cluster.Cluster.{Cluster}
 use Rattle.cluster_rounds.specs.Worlds.{Shows, IsGood, HasState, Happened}
+use Rattle.lead_rounds.proofs.LeadSteps.{answered-history, accepted-history}
 use Rattle.group_servers.specs.declared.group.Seat.{Seat}
 use Rattle.group_servers.specs.declared.group.Group.{Group}
 use Rattle.group_servers.specs.Delivered.{CanTake, FirstComes, committed_now}
 use Rattle.group_servers.specs.Seats.{entry_goes}
 use Rattle.group_servers.specs.GroupKit.{group_kit}
-use Rattle.group_servers.specs.GroupNodes.{is_linked, waits_by, active_by, seats_by, servers_of}
-use Rattle.group_servers.proofs.GoodSteps.{answered-history, accepted-history}
+use Rattle.lead_rounds.specs.Leading.{waits_by}
+use Rattle.group_servers.specs.GroupLaws.{group_laws}
+use Rattle.group_servers.specs.GroupNodes.{is_linked, active_by, seats_by, servers_of}
 use Rattle.group_servers.proofs.GroupSteps.{turn-step}
 use Rattle.group_servers.proofs.LookSteps.{LinksAgree, waits_while, looked-seats, looked-active, waiting-commits, turned-agrees}
 use Rattle.group_servers.proofs.SeatSteps.{goes-is}
@@ -100,7 +102,7 @@ module _ (n : ℕ) where
   may-at : (setup : Setup) (state : State Peers) (hand : Hand) → IsGood (group_kit n) setup (group_at state.peers.seats hand state) → MayCome setup state.world.core.answered hand
   may-at setup state (Waiting entry) good =
       let past = state.world.core.answered in
-      ((accepted-history n setup (group_at state.peers.seats (Waiting entry) state) good).0, legal-follows (plain_of setup) state.world.now past entry good.steady.sound.facts.legal)
+      ((accepted-history (group_kit n) (group_laws n) setup (group_at state.peers.seats (Waiting entry) state) good).0, legal-follows (plain_of setup) state.world.now past entry good.steady.sound.facts.legal)
   may-at setup state Empty good = tt
   may-at setup state (Applied entry) good = tt
   may-at setup state (Ready entry) good = tt
@@ -113,7 +115,7 @@ module _ (n : ℕ) where
   can-take-all old has =
       let core = has.state.world.core in
       let T : List Seat → Type 0 = λ seats. AllByRecursion CanTake seats in
-      subst T (sym (ap (λ (servers : Group n). servers.seats) has.shows.own)) (all-take has.setup core.answered core.hand has.state.peers.seats (answered-history n has.setup has.state has.good) (may-come has.setup has.state has.good) has.good.steady.good.agree)
+      subst T (sym (ap (λ (servers : Group n). servers.seats) has.shows.own)) (all-take has.setup core.answered core.hand has.state.peers.seats (answered-history (group_kit n) (group_laws n) has.setup has.state has.good) (may-come has.setup has.state has.good) has.good.steady.good.agree)
 
   -- what a step came to
   pub record StepHappened (setup : Setup) (step : Option (Outcome (State Peers))) (new : Cluster (Group n)) (before after : List (List ℕ)) : Type 0 where
@@ -159,7 +161,7 @@ module _ (n : ℕ) where
       let turn = turn_of these (mirrored past) in
       let turning = these-turns these hand (mirrored past) (mirrored-turns past hand) in
       let agree = good.steady.good.agree in
-      let turns : TurnsAll these setup past hand owns found news before mid = deliver-turns these setup past hand owns (Some found) old.servers.seats news before mid (answered-history n setup state good) (may-come setup state good) agree (ap (λ (servers : Group n). servers.seats) shows.own) comes in
+      let turns : TurnsAll these setup past hand owns found news before mid = deliver-turns these setup past hand owns (Some found) old.servers.seats news before mid (answered-history (group_kit n) (group_laws n) setup state good) (may-come setup state good) agree (ap (λ (servers : Group n). servers.seats) shows.own) comes in
       let outcome = looked turns.seats hand turns.told state in
       let step = turn-step n setup state turn turns.seats turns.told good turning turns.roles turns.is in
       let goes : list_any entry_goes news ≡ any_seat is_sent turns.seats = ap (list_any entry_goes) turns.news_are ∙ goes-is setup past hand turns.seats (turned-agrees turn hand state.peers.acting turning owns turns.seats turns.told turns.is agree) in
@@ -179,5 +181,5 @@ module _ (n : ℕ) where
   mirrors-none these setup state old news before after good shows comes =
       let core = state.world.core in
       let own = ap (λ (servers : Group n). servers.seats) shows.own in
-      let none = deliver-turns these setup core.answered core.hand state.peers.seats None old.servers.seats news before after (answered-history n setup state good) (may-come setup state good) good.steady.good.agree own comes in
+      let none = deliver-turns these setup core.answered core.hand state.peers.seats None old.servers.seats news before after (answered-history (group_kit n) (group_laws n) setup state good) (may-come setup state good) good.steady.good.agree own comes in
       (ap (λ turned. step_by turned state) none.0, none.1 ∙ sym own, none.2)

@@ -28,9 +28,9 @@ use Rattle.cluster_rounds.specs.Kits.{device_by}
 use Rattle.cluster_rounds.specs.PartlyDone.{SaysUnasked}
 use Rattle.cluster_rounds.specs.Worlds.{IsGood}
 use Rattle.cluster_rounds.proofs.CameSteps.{ends-longer}
+use Rattle.lead_rounds.proofs.GroupSteps.{unasked-borne}
 use Rattle.group_servers.specs.GroupCounts.{is_down}
 use Rattle.group_servers.specs.GroupKit.{group_kit}
-use Rattle.group_servers.specs.GroupLaws.{unasked-borne}
 
 -- What goes on is in range, and longer than what was answered.
 

@@ -18,7 +18,8 @@ use Rattle.group_cluster.specs.Seats.{Clear, Sent, Took, Stance, Out, Owed, Link
 use Rattle.group_cluster.specs.Falling.{commitment, looked_at, out_at, taken_by}
 use Rattle.group_cluster.proofs.Seating.{AllSeats, any-none}
 use Rattle.group_servers.specs.declared.group.Seat.{Seat}
-use Rattle.group_servers.specs.GroupNodes.{active_by, is_linked, seat_by, seats_by, serving_by, to_server, waits_by}
+use Rattle.lead_rounds.specs.Leading.{serving_by, waits_by}
+use Rattle.group_servers.specs.GroupNodes.{active_by, is_linked, seat_by, seats_by, to_server}
 use Rattle.group_servers.specs.Parted.{DropsAt, DropsBy, TakesLast, lost_entry, lost_lines, settled_by}
 use Rattle.group_servers.proofs.LookSteps.{LinksAgree, looked-active, rest-commits, taken-commits, waits_while}
 use Rattle.group_servers.proofs.NameSteps.{Once, absent-behind, set-absent}

@@ -33,6 +33,7 @@ use Rattle.cluster_rounds.specs.Kits.{device_by}
 use Rattle.cluster_rounds.specs.Worlds.{Shows, IsGood, HasState, any_state}
 use Rattle.cluster_rounds.proofs.BrokenSteps.{broken-between}
 use Rattle.cluster_rounds.specs.Seen.{counters_of}
+use Rattle.lead_rounds.proofs.LeadSteps.{answered-history, accepted-history}
 use Rattle.group_servers.specs.declared.group.Group.{Group}
 use Rattle.group_servers.specs.Falls.{IsFitSeat, TookOver, AllFell, FellPartly, TakesOver, all_wayless}
 use Rattle.group_servers.specs.GroupCounts.{LacksGroup, count_up}
@@ -46,7 +47,6 @@ use Rattle.group_servers.specs.Steps.{grew, worked_by, EndsWork}
 use Rattle.group_servers.proofs.DealSteps.{Broke, alone-ending}
 use Rattle.group_servers.proofs.EndSteps.{ended-by, work-ends}
 use Rattle.group_servers.proofs.FallSteps.{wayless-bare, fit-seats, partly-armed}
-use Rattle.group_servers.proofs.GoodSteps.{answered-history, accepted-history}
 use Rattle.group_servers.proofs.GroupFiles.{some-of, broke-within, stop-standby}
 use Rattle.group_servers.proofs.GroupSteps.{calls_for}
 use Rattle.group_servers.proofs.RowSteps.{failed-spent, some-made}
@@ -113,7 +113,7 @@ module _ (n : ℕ) where
   seats-fit old has =
       let core = has.state.world.core in
       let owns = has.state.peers.seats in
-      fit-seats has.setup core.answered core.hand owns old.servers.seats (answered-history n has.setup has.state has.good) (accepted-history n has.setup has.state has.good)
+      fit-seats has.setup core.answered core.hand owns old.servers.seats (answered-history (group_kit n) (group_laws n) has.setup has.state has.good) (accepted-history (group_kit n) (group_laws n) has.setup has.state has.good)
       (ap (λ (servers : Group n). all_wayless servers.seats) has.shows.own ∙ wayless-bare has.setup core.answered core.hand owns)
 
   -- Standbys tried to take over.

@@ -1,5 +1,5 @@
 -- What the work of the entry in hand comes to, and what it leaves where it breaks off.
-use Rattle.std.proofs.Common.{◌≡◌, ℕ, suc, ◌≤◌, ◌⊎◌, inl, inr, Bool, false, nat_lt, ◌==◌, if◌then◌else◌, Option, Some, None, List, [], ◌∷◌, ◌++◌, length, refl, ap, sym, ◌∙◌, subst, arith, le_refl}
+use Rattle.std.proofs.Common.{◌≡◌, ℕ, suc, ◌≤◌, inl, inr, Bool, false, nat_lt, ◌==◌, if◌then◌else◌, Option, Some, None, List, [], ◌∷◌, ◌++◌, length, refl, ap, sym, ◌∙◌, subst, arith, le_refl}
 use Rattle.std.specs.Prelude.{IsSome, is_some, option_map}
 use Rattle.std.specs.List.{AllByRecursion}
 use Rattle.disk_model.specs.Counts as counts
@@ -12,17 +12,15 @@ use Rattle.wire.specs.MessageSpelling.{MessageInRange}
 use Rattle.plain_service.specs.Setups.{Setup}
 use Rattle.plain_service.specs.Storing.{deeds_of}
 use Rattle.service_laws.specs.PlainOf.{plain_of}
-use Rattle.service_laws.proofs.ServiceLaws.{is_plain}
-use Rattle.cluster_facts.specs.Types.{Call, Entry, Called, Receipted, Answer}
+use Rattle.cluster_facts.specs.Types.{Call, Entry, Called, Receipted}
 use Rattle.cluster_facts.specs.Lists.{EndsIn, IsNumbered}
-use Rattle.cluster_facts.specs.Messages.{Posting, calls_in}
+use Rattle.cluster_facts.specs.Messages.{calls_in}
 use Rattle.cluster_facts.specs.History.{Hand, Empty, Waiting, Applied, Ready, committed, committed_by}
 use Rattle.cluster_facts.proofs.Words.{by_test}
 use Rattle.cluster_events.specs.Outcomes.{Outcome}
 use Rattle.cluster_events.specs.Servers.{State}
 use Rattle.cluster_events.specs.Devices.{EventBy, ComesTo, IsCaused}
 use Rattle.event_text.specs.Texts.{printed}
-use Rattle.group_cluster.specs.Answering.{net_answering, lines_answering}
 use Rattle.mirror.specs.declared.heard.Heard.{Heard}
 use Rattle.mirror.specs.declared.state.NodeState.{NodeState as Node}
 use Rattle.mirror.specs.Replicas.{replies_owed}
@@ -43,6 +41,8 @@ use Rattle.cluster_rounds.specs.Worlds.{Shows, IsGood, HasState, TellsFiles, Lea
 use Rattle.cluster_rounds.proofs.BrokenSteps.{armed-shown, broken-between, left-between, shown-ends, whole-broken}
 use Rattle.cluster_rounds.proofs.UnaskedSteps.{unasked-same}
 use Rattle.cluster_rounds.specs.Seen.{counters_of}
+use Rattle.lead_rounds.proofs.HeldSteps.{calls-few}
+use Rattle.lead_rounds.proofs.ReplySteps.{answer-breaks, answer-posts}
 use Rattle.group_servers.specs.declared.group.Seat.{Seat}
 use Rattle.group_servers.specs.declared.group.Group.{Group}
 use Rattle.group_servers.specs.GroupCounts.{TellsDown, WorkedAll}
@@ -57,22 +57,8 @@ use Rattle.group_servers.proofs.DealSteps.{done-dealt}
 use Rattle.group_servers.proofs.DoneSteps.{done-by}
 use Rattle.group_servers.proofs.GroupFiles.{work-files, done-stands}
 use Rattle.group_servers.proofs.GroupSteps.{IsStep, calls_for, falls_by, line-works, work-step, work_so, work-comes}
-use Rattle.group_servers.proofs.HearBroken.{posts-none, posts-one}
-use Rattle.group_servers.proofs.HeldSteps.{calls-few}
 use Rattle.group_servers.proofs.RowSteps.{passed-spent}
 use Rattle.group_servers.proofs.UpSteps.{done-up}
-
--- The reply of an entry.
-
-answer-posts : (setup : Setup) (past : List Entry) (entry : Entry) (net : List Posting) (old new before after : List (List ℕ)) → PostsAll (replies_owed setup past entry) old new before after → AreSpelled net old → AreSpelled (net_answering (plain_of setup) past entry net) new × (after ≡ before ++ printed (lines_answering (plain_of setup) past entry net))
-answer-posts setup past (Called client number time call) net old new before after posts spelled = posts (plain_of setup) net (is_plain setup) spelled
-answer-posts setup past (Receipted client key through time) net old new before after posts spelled = posts (plain_of setup) net (is_plain setup) spelled
-
--- it was posted or not
-answer-breaks : (setup : Setup) (past : List Entry) (entry : Entry) (net : List Posting) (old new : List (List ℕ)) → PostsSome (replies_owed setup past entry) old new → AreSpelled net old → AreSpelled net new ⊎ AreSpelled (net_answering (plain_of setup) past entry net) new
-answer-breaks setup past (Called client number time call) net old new posts spelled =
-    posts-one setup (Answer client number ((plain_of setup).reply past client number time call)) net old new posts spelled
-answer-breaks setup past (Receipted client key through time) net old new posts spelled = inl (posts-none setup net old new posts spelled)
 
 armed-lowered : (armed : Option ℕ) (calls : ℕ) → is_some armed ≡ is_some (counts.lowered calls armed)
 armed-lowered None calls = refl

@@ -1,69 +1,21 @@
 -- Words of public clauses: which servers the code has, and which messages on the way between them, at a state of the definitions.
-use Rattle.std.specs.Prelude.{ℕ, Bool, true, false, if◌then◌else◌, Option, Some, None, is_some, List, [], ◌∷◌, map}
-use Rattle.stream_layout.specs.declared.deed.Deed.{Deed}
+use Rattle.std.specs.Prelude.{ℕ, is_some, List, [], ◌∷◌, map}
 use Rattle.wire.specs.declared.message.Message.{Message}
 use Rattle.wire.specs.declared.message.Message.TheVariants as wire
 use Rattle.plain_service.specs.Setups.{Setup}
-use Rattle.plain_service.specs.Storing.{deeds_of}
 use Rattle.plain_service.specs.Values.{saved_of}
 use Rattle.cluster_facts.specs.Types.{Entry}
-use Rattle.cluster_facts.specs.History.{Hand, Empty, Waiting, Applied, Ready, accepted_by}
+use Rattle.cluster_facts.specs.History.{Hand, accepted_by}
 use Rattle.cluster_events.specs.Servers.{State}
-use Rattle.mirror.specs.declared.heard.Role.TheVariants as role
 use Rattle.mirror.specs.declared.state.NodeState.{NodeState as Node}
-use Rattle.mirror.specs.declared.node.Tie.{Tie}
-use Rattle.mirror.specs.declared.node.Tie.TheVariants.{Apart, Linked}
-use Rattle.mirror.specs.Replicas.{ReplicaState, down, started, at_rest, at_work}
+use Rattle.mirror.specs.Replicas.{down}
 use Rattle.mirror.specs.Pairing.{alone, joining}
-use Rattle.group_cluster.specs.Seats.{Mark, Sent, Stance, Out, Owed, Linking, Standby, Peers, any_seat}
+pub use Rattle.lead_rounds.specs.Nodes.{is_linked, active_by, last_deeds, standby_by}
+use Rattle.group_cluster.specs.Seats.{Mark, Sent, Stance, Out, Owed, Linking, Standby, Peers}
 use Rattle.group_cluster.specs.Seats as defined
 use Rattle.group_cluster.specs.Seats.{ToServer, Snapshot, Mirror, FromServer, JoinAck, MirrorAck, link_of, back_of}
 use Rattle.group_servers.specs.declared.group.Seat.{Seat}
 use Rattle.group_servers.specs.declared.group.Group.{Group}
-
--- The active server.
-
-abbrev pub serving_by : Setup → List Entry → Hand → ReplicaState
-serving_by setup past Empty = at_rest setup past
-serving_by setup past (Waiting entry) = at_work setup past entry
-serving_by setup past (Applied entry) = at_work setup past entry
-serving_by setup past (Ready entry) = at_work setup past entry
-
-abbrev pub waits_by : Hand → Option Entry
-waits_by Empty = None
-waits_by (Waiting entry) = Some entry
-waits_by (Applied entry) = Some entry
-waits_by (Ready entry) = None
-
--- a server to which entries go
-abbrev pub is_linked : Stance → Bool
-is_linked (Linking sent) = true
-is_linked (Standby on_way mark keeps) = true
-is_linked _ = false
-
-abbrev pub tie_to : List defined.Seat → Tie
-tie_to seats = if any_seat is_linked seats then Linked else Apart
-
-abbrev pub active_by : Setup → List Entry → Hand → List defined.Seat → Node
-active_by setup past hand seats =
-    record { replica = serving_by setup past hand; waits = waits_by hand; tie = tie_to seats; promised = []; kept = None }
-
--- The others.
-
--- the deeds of the last entry of a history
-abbrev pub last_deeds : Setup → List Entry → List Deed
-last_deeds setup [] = []
-last_deeds setup (entry ∷ past) = deeds_of setup past entry
-
--- the standby after a history
-abbrev pub standby_by : Setup → List Entry → Bool → Node
-standby_by setup history keeps = record {
-  replica = started role.Standby (saved_of setup history);
-  waits = None;
-  tie = Apart;
-  promised = [];
-  kept = if keeps then Some (last_deeds setup history) else None;
-}
 
 -- a server to which an entry goes has not applied it
 abbrev pub history_by : List Entry → Hand → Mark → List Entry

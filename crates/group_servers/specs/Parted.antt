@@ -3,7 +3,7 @@ use Rattle.std.specs.Prelude.{◌≡◌, ℕ, Bool, true, false, ◌&&◌, ◌||
 use Rattle.std.specs.List.{list_any}
 use Rattle.script_lines.specs.declared.line.Server.{Server}
 use Rattle.wire.specs.declared.message.Message.{Message}
-use Rattle.wire.specs.declared.message.Message.TheVariants.{Mirror}
+use Rattle.wire.specs.Mirrored.{entry_brought}
 use Rattle.cluster_facts.specs.Types.{Entry}
 use Rattle.cluster_events.specs.declared.lines.ServerRole.TheVariants as role
 use Rattle.event_text.specs.Texts.{entry_line, server_line}
@@ -66,8 +66,7 @@ DropsAt server lost _ _ = ⊥
 -- the entry that it brings, if it goes to no other server
 abbrev pub lost_entry : (goes : Bool) → Option Message → Option (ℕ × Entry)
 lost_entry true lost = None
-lost_entry false (Some (Mirror number entry)) = Some (number, entry)
-lost_entry false _ = None
+lost_entry false lost = entry_brought lost
 
 abbrev pub lost_lines : Option (ℕ × Entry) → Server → List (List ℕ)
 lost_lines None server = server_line server role.Down ∷ []

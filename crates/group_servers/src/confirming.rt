@@ -8,7 +8,7 @@ ghost use Rattle.group_servers.specs.Delivered.{TakesBack, ConfirmsLast, every};
 ghost use Rattle.group_servers.specs.GroupKit.{group_kit};
 ghost use Rattle.group_servers.specs.Steps.{StepsBy};
 
-use crate::seats::{any_back, is_last};
+use crate::seats::{any_back, has_back, is_last};
 use crate::{Group, Seat};
 use cluster_rounds::Cluster;
 use lead_server::{confirm, take_first};
@@ -22,10 +22,12 @@ fn take_back(alloc: Global, seats: &mut [Seat]) -> Option<Message>
 {
     match seats.split_first_mut() {
         None => None,
-        Some((first, rest)) => match take_first(alloc, &mut first.back) {
-            Some(message) => Some(message),
-            None => take_back(alloc, rest),
-        },
+        Some((first, rest)) => {
+            if !has_back(first) {
+                return take_back(alloc, rest);
+            }
+            take_first(alloc, &mut first.back)
+        }
     }
 }
 

@@ -10,7 +10,7 @@ ghost use Rattle.group_servers.specs.Delivered.{CanTake, Hears, joined_lines, Te
 ghost use Rattle.group_servers.specs.GroupKit.{group_kit};
 ghost use Rattle.group_servers.specs.Steps.{StepsBy};
 
-use crate::seats::{any_goes, any_link};
+use crate::seats::{any_goes, any_link, has_link};
 use crate::{Group, Seat};
 use ais_values::Seq;
 use calls::{Entry, History, let_entry_go};
@@ -122,11 +122,12 @@ fn deliver_first(
 {
     match seats.split_first_mut() {
         None => Ok(None),
-        Some((first, rest)) => match deliver_to(alloc, first, lines, now) {
-            Ok(None) => deliver_first(alloc, rest, lines, now),
-            Ok(Some(committed)) => Ok(Some(committed)),
-            Err(error) => Err(error),
-        },
+        Some((first, rest)) => {
+            if !has_link(first) {
+                return deliver_first(alloc, rest, lines, now);
+            }
+            deliver_to(alloc, first, lines, now)
+        }
     }
 }
 

@@ -1,5 +1,6 @@
 //! Servers that join, to which the value of the service is owed.
 ghost use Rattle.std.specs.Prelude.{◌≡◌, None, OnOk, length};
+ghost use Rattle.std.specs.List.{list_any};
 ghost use Rattle.mirror.specs.declared.heard.Role.TheVariants.{Active};
 ghost use Rattle.group_servers.specs.Owing.{is_owed, LinksOne, LinksAll};
 
@@ -46,6 +47,28 @@ fn link_one(alloc: Global, active: &mut Node, seat: &mut Seat) -> Result<(), All
 }
 
 /// Each server gets what is owed to it.
+fn link_each(alloc: Global, active: &mut Node, seats: &mut [Seat]) -> Result<(), AllocError>
+    requires idle { active.old.replica.owed ≡ None }
+    requires role { active.old.replica.role ≡ Active }
+    ensures { OnOk result (LinksAll seats.old seats.new active.old active.new) }
+{
+    match seats.split_first_mut() {
+        None => Ok(()),
+        Some((first, rest)) => match link_one(alloc, active, first) {
+            Ok(()) => link_each(alloc, active, rest),
+            Err(error) => Err(error),
+        },
+    }
+}
+
+/// Whether the value of the service is owed to some server.
+fn any_owed(seats: &[Seat]) -> bool
+    ensures { result ≡ list_any is_owed seats.now }
+{
+    seats.iter().any(|seat| is_owed(seat))
+}
+
+/// Each server gets what is owed to it.
 pub(crate) fn link_all(
     alloc: Global,
     active: &mut Node,
@@ -55,11 +78,9 @@ pub(crate) fn link_all(
     requires role { active.old.replica.role ≡ Active }
     ensures { OnOk result (LinksAll seats.old seats.new active.old active.new) }
 {
-    match seats.split_first_mut() {
-        None => Ok(()),
-        Some((first, rest)) => match link_one(alloc, active, first) {
-            Ok(()) => link_all(alloc, active, rest),
-            Err(error) => Err(error),
-        },
+    // Seldom one joins, and this tells so without the room of what it gets.
+    if !any_owed(seats) {
+        return Ok(());
     }
+    link_each(alloc, active, seats)
 }

@@ -24,7 +24,7 @@ use mirror::{Node, let_heard_go};
 use script_lines::Server;
 use std::alloc::{AllocError, Global};
 use std::mem;
-use wire::{Message, let_message_go, let_messages_go};
+use wire::{Message, let_message_go, let_messages_go, mirrored};
 
 /// Takes the last message, if there is one, and lets the others go.
 fn take_last(alloc: Global, list: &mut Seq<Message>) -> Option<Message>
@@ -63,13 +63,7 @@ fn lost_entry(goes: bool, lost: Option<Message>) -> Option<(u64, Entry)>
         let_message_go(lost);
         return None;
     }
-    match lost {
-        Some(Message::Mirror { number, entry }) => Some((number, entry)),
-        other => {
-            let_message_go(other);
-            None
-        }
-    }
+    mirrored(lost)
 }
 
 /// Adds the lines of an entry and of a server that is down.

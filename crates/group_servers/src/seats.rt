@@ -36,7 +36,7 @@ pub(crate) fn same_server(one: Server, other: Server) -> bool
 }
 
 /// Whether a message is on the way to a server.
-fn has_link(seat: &Seat) -> bool
+pub(crate) fn has_link(seat: &Seat) -> bool
     ensures { result ≡ has_link seat.now }
 {
     !seat.link.as_slice().is_empty()
@@ -50,7 +50,7 @@ pub(crate) fn any_link(seats: &[Seat]) -> bool
 }
 
 /// Whether a message is on the way back from a server.
-fn has_back(seat: &Seat) -> bool
+pub(crate) fn has_back(seat: &Seat) -> bool
     ensures { result ≡ has_back seat.now }
 {
     !seat.back.as_slice().is_empty()

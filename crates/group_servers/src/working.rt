@@ -1,8 +1,9 @@
 //! The deeds of the entry in hand, and the steps of the servers.
-ghost use Rattle.std.specs.Prelude.{◌≡◌, None, OnOk, OnErr, IfOk, IfErr, IsSome};
+ghost use Rattle.std.specs.Prelude.{◌≡◌, None, false, OnOk, OnErr, IfOk, IfErr, IsSome};
 ghost use Rattle.std.specs.List.{AllByRecursion};
 ghost use Rattle.wire.specs.MessageSpelling.{MessageInRange};
 ghost use Rattle.mirror.specs.declared.heard.Role.TheVariants.{Active};
+ghost use Rattle.mirror.specs.Working.{has_deeds};
 ghost use Rattle.cluster_clients.specs.Posted.{PostsSome};
 ghost use Rattle.cluster_rounds.specs.Worlds.{HasStateOn, any_state};
 ghost use Rattle.cluster_rounds.specs.Rounds.{EndsStep};
@@ -52,13 +53,9 @@ fn tell_done(
     }
 }
 
-/// Works the entry in hand, which is ready: its deeds are done, its reply is posted, and servers that join are sent what they are owed.
-/// Where the active server stops within the deeds, a standby takes over, and so it does at a fault of the disk.
-///
-/// `Failed` comes where the disk had a fault that no server survives: the active server has no standby, or each of them had a fault too as it
-/// took over. Where memory runs out within the deeds they can be done again. `Stopped` never comes. The lines that tell of a fall are put
-/// first and taken back where there was none, so that none is lost for want of memory.
-pub fn work<const N: usize, D: SharedDisk>(
+/// Works the entry in hand, which is ready and has deeds. The lines that tell of a fall are put first and taken back where there was none, so
+/// that none is lost for want of memory.
+fn work_deeds<const N: usize, D: SharedDisk>(
     alloc: Global,
     world: &mut Cluster<Group<N>>,
     lines: &mut Vec<Seq<u8>>,
@@ -119,6 +116,65 @@ pub fn work<const N: usize, D: SharedDisk>(
             disk,
         ),
     }
+}
+
+/// Works the entry in hand, which is ready and has no deeds: no call of the disk is made, so the active server does not fall.
+fn work_still<const N: usize, D: SharedDisk>(
+    alloc: Global,
+    world: &mut Cluster<Group<N>>,
+    lines: &mut Vec<Seq<u8>>,
+    disk: &mut D,
+) -> Result<(), DiskAnswer>
+    requires state { HasStateOn (group_kit N) any_state world.old (D.seen disk.old) }
+    requires hand { IsSome world.old.servers.active.replica.owed }
+    requires ready { world.old.servers.active.waits ≡ None }
+    requires still { has_deeds world.old.servers.active.replica.owed ≡ false }
+    ensures ok { OnOk result (Comes (group_kit N) any_state (worked_by N) world.old world.new
+        lines.old.items lines.new.items (grew world.old world.new) (D.seen disk.old)
+        (D.seen disk.new)) }
+    ensures err { IfErr result (λ answer. ComesOff (group_kit N) any_state (EndsWork N) answer
+        world.old world.new lines.old.items lines.new.items (D.seen disk.old) (D.seen disk.new)) }
+{
+    match world.servers.active.work(alloc, disk) {
+        Ok(heard) => match tell_done(
+            alloc,
+            &mut world.servers.active,
+            &mut world.servers.seats,
+            &mut world.net,
+            lines,
+            heard,
+        ) {
+            Ok(()) => Ok(()),
+            Err(_) => Err(DiskAnswer::Memory),
+        },
+        Err(_) => unreachable!(),
+    }
+}
+
+/// Works the entry in hand, which is ready: its deeds are done, its reply is posted, and servers that join are sent what they are owed.
+/// Where the active server stops within the deeds, a standby takes over, and so it does at a fault of the disk.
+///
+/// `Failed` comes where the disk had a fault that no server survives: the active server has no standby, or each of them had a fault too as it
+/// took over. Where memory runs out within the deeds they can be done again. `Stopped` never comes.
+pub fn work<const N: usize, D: SharedDisk>(
+    alloc: Global,
+    world: &mut Cluster<Group<N>>,
+    lines: &mut Vec<Seq<u8>>,
+    disk: &mut D,
+) -> Result<(), DiskAnswer>
+    requires state { HasStateOn (group_kit N) any_state world.old (D.seen disk.old) }
+    requires hand { IsSome world.old.servers.active.replica.owed }
+    requires ready { world.old.servers.active.waits ≡ None }
+    ensures ok { OnOk result (Comes (group_kit N) any_state (worked_by N) world.old world.new
+        lines.old.items lines.new.items (grew world.old world.new) (D.seen disk.old)
+        (D.seen disk.new)) }
+    ensures err { IfErr result (λ answer. ComesOff (group_kit N) any_state (EndsWork N) answer
+        world.old world.new lines.old.items lines.new.items (D.seen disk.old) (D.seen disk.new)) }
+{
+    if world.servers.active.has_deeds() {
+        return work_deeds(alloc, world, lines, disk);
+    }
+    work_still(alloc, world, lines, disk)
 }
 
 /// Makes one step of a drain: the first message on the way to a server is delivered, else the first on the way back, else the entry in hand

@@ -24,7 +24,7 @@ use Rattle.mirror.specs.Hearing.{CanHear}
 use Rattle.mirror.specs.Replicas.{HasRoom}
 use Rattle.mirror.specs.Pairing.{IsHeard}
 use Rattle.mirror.proofs.ReplicaLaws.{count-is}
-use Rattle.cluster_lines.proofs.LineSteps.{moment-same}
+use Rattle.plain_service.proofs.MomentLaws.{moment-same}
 use Rattle.cluster_rounds.specs.declared.cluster.Cluster.{Cluster}
 use Rattle.cluster_rounds.specs.Kits.{IsKit, Kit, servers_at}
 use Rattle.cluster_rounds.specs.PartlyDone.{SaysUnasked}

@@ -4,3 +4,4 @@ pub mod HearBroken
 pub mod HeldSteps
 pub mod PushSteps
 pub mod GroupSteps
+pub mod ReplySteps

@@ -6,7 +6,8 @@ use Rattle.cluster_lines.specs.Lines.{IsInRange, CanPlay}
 use Rattle.cluster_lines.specs.Playing.{SharesIn}
 use Rattle.cluster_lines.specs.Steps.{PlaysAlone}
 use Rattle.cluster_clients.proofs.DispatchSteps.{on-err}
-use Rattle.cluster_lines.proofs.LineSteps.{moment-same, plays-as, plays-time, plays-log, plays-ntf, plays-deliver, plays-resend, plays-push, plays-one, plays-all, plays-servers}
+use Rattle.plain_service.proofs.MomentLaws.{moment-same}
+use Rattle.cluster_lines.proofs.LineSteps.{plays-as, plays-time, plays-log, plays-ntf, plays-deliver, plays-resend, plays-push, plays-one, plays-all, plays-servers}
 use Rattle.cluster_rounds.specs.Wild.{KeepsWild, always}
 use Rattle.cluster_rounds.proofs.WildSteps.{on-ok}
 use Rattle.cluster_lines.proofs.WildLines.{same-wild, time-wild}

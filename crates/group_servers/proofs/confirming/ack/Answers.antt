@@ -1,7 +1,7 @@
 use Rattle.std.proofs.Common.{None, List, refl, sym, ap}
 use Rattle.group_servers.specs.declared.group.Seat.{Seat}
 use Rattle.group_servers.specs.Delivered.{every}
-use Rattle.group_servers.proofs.HearBroken.{untold-breaks}
+use Rattle.group_servers.proofs.GoodSteps.{untold-breaks}
 use Rattle.group_servers.proofs.SeatTurns.{none-returns}
 use Rattle.group_servers.proofs.ConfirmSteps.{back-stays, can-confirm, ack-happens, acks-none}
 use Rattle.group_servers.proofs.confirming.ack.Goals as goal

@@ -7,10 +7,9 @@ use Rattle.cluster_lines.proofs.LineBroken.{ends-broken}
 use Rattle.cluster_lines.proofs.LineSteps.{ends-ok}
 use Rattle.group_servers.specs.GroupKit.{group_kit, group_script}
 use Rattle.group_servers.specs.GroupLaws.{group_laws}
-use Rattle.group_servers.proofs.GoodSteps.{is-active}
+use Rattle.group_servers.proofs.GoodSteps.{is-active, same-untold}
 use Rattle.group_servers.specs.GroupScript.{group_follows}
 use Rattle.group_servers.specs.Steps.{refused_by}
-use Rattle.group_servers.proofs.HearBroken.{same-untold}
 use Rattle.group_servers.proofs.CrashSteps.{calm-crashes}
 use Rattle.group_servers.proofs.FailSteps.{crash-on, crash-refuses}
 use Rattle.group_servers.proofs.crashing.crash.Goals as goal

@@ -6,7 +6,7 @@ use Rattle.group_servers.specs.GroupKit.{group_kit}
 use Rattle.group_servers.specs.GroupLaws.{group_laws}
 use Rattle.group_servers.proofs.CrashSteps.{crash-does, crash-off, prepared-fit}
 use Rattle.group_servers.proofs.FallSteps.{all-catch}
-use Rattle.group_servers.proofs.HearBroken.{untold-breaks}
+use Rattle.group_servers.proofs.GoodSteps.{untold-breaks}
 use Rattle.group_servers.proofs.MirrorSteps.{can-take-all}
 use Rattle.group_servers.proofs.crashing.crash_active.Goals as goal
 

@@ -4,7 +4,7 @@ use Rattle.group_servers.specs.declared.group.Seat.{Seat}
 use Rattle.lead_server.specs.Told.{Commits}
 use Rattle.group_servers.specs.Delivered.{FirstComes, committed_now, every}
 use Rattle.group_servers.proofs.DeliverSteps.{comes-stays}
-use Rattle.group_servers.proofs.HearBroken.{untold-breaks}
+use Rattle.group_servers.proofs.GoodSteps.{untold-breaks}
 use Rattle.group_servers.proofs.SeatTurns.{none-goes}
 use Rattle.group_servers.proofs.MirrorSteps.{can-take-all, mirror-happens, mirrors-none}
 use Rattle.group_servers.proofs.delivering.mirror.Goals as goal

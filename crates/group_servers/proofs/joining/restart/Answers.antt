@@ -4,7 +4,7 @@ use Rattle.cluster_rounds.specs.Worlds.{Does}
 use Rattle.cluster_clients.proofs.DispatchSteps.{on-err}
 use Rattle.group_servers.specs.GroupKit.{group_kit}
 use Rattle.group_servers.specs.Steps.{refused_by}
-use Rattle.group_servers.proofs.HearBroken.{same-untold, untold-breaks}
+use Rattle.group_servers.proofs.GoodSteps.{same-untold, untold-breaks}
 use Rattle.group_servers.proofs.FailSteps.{restart-refuses}
 use Rattle.group_servers.proofs.joining.restart.Goals as goal
 

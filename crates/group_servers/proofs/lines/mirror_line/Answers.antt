@@ -5,7 +5,7 @@ use Rattle.group_servers.specs.Steps.{StepsBy, refused_by}
 use Rattle.group_servers.specs.GroupKit.{group_kit}
 use Rattle.cluster_rounds.specs.Worlds.{Does}
 use Rattle.cluster_clients.proofs.DispatchSteps.{on-err}
-use Rattle.group_servers.proofs.HearBroken.{same-untold}
+use Rattle.group_servers.proofs.GoodSteps.{same-untold}
 use Rattle.group_servers.proofs.LineSteps.{mirror-does, mirror-refused}
 use Rattle.group_servers.proofs.lines.mirror_line.Goals as goal
 

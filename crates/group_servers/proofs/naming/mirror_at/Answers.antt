@@ -5,7 +5,7 @@ use Rattle.group_servers.specs.declared.group.Seat.{Seat}
 use Rattle.lead_server.specs.Told.{Commits}
 use Rattle.group_servers.specs.Delivered.{FirstComes, committed_now}
 use Rattle.group_servers.proofs.DeliverSteps.{comes-stays}
-use Rattle.group_servers.proofs.HearBroken.{untold-breaks}
+use Rattle.group_servers.proofs.GoodSteps.{untold-breaks}
 use Rattle.group_servers.proofs.MirrorSteps.{can-take-all, mirror-happens, mirrors-none}
 use Rattle.group_servers.proofs.naming.mirror_at.Goals as goal
 

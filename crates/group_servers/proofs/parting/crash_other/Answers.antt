@@ -4,7 +4,7 @@ use Rattle.cluster_facts.specs.Types.{Entry}
 use Rattle.cluster_clients.proofs.DispatchSteps.{on-err}
 use Rattle.group_servers.specs.Parted.{lost_entry, lost_lines}
 use Rattle.group_servers.proofs.FailSteps.{parts}
-use Rattle.group_servers.proofs.HearBroken.{untold-breaks}
+use Rattle.group_servers.proofs.GoodSteps.{untold-breaks}
 use Rattle.group_servers.proofs.parting.crash_other.Goals as goal
 
 pub push_caught-requires : goal.push_caught-requires

@@ -1,5 +1,4 @@
-use Rattle.std.proofs.Common.{true, false, sym, ◌∙◌}
-use Rattle.group_servers.specs.Tries.{takes}
+use Rattle.std.proofs.Common.{sym, ◌∙◌}
 use Rattle.group_servers.specs.Tries.Tries.{passes, fails, takes_over}
 use Rattle.group_servers.specs.Tries.TriesPartly.{passes_by, fails_first, lacks}
 use Rattle.group_servers.proofs.TrySteps.{none-tries, furthered, furthered-err}

@@ -16,7 +16,7 @@ use Rattle.group_servers.proofs.FallLines.{none-left, one-left}
 use Rattle.group_servers.proofs.DealSteps.Broke.{stopped, failed}
 use Rattle.group_servers.proofs.WorkCame.{stop-next, some-next, seats-fit, falls-over, falls-off, failed-alone}
 use Rattle.group_servers.proofs.WorkSteps.{works, work-lacks, work-untold, worked-range}
-use Rattle.group_servers.proofs.working.work.Goals as goal
+use Rattle.group_servers.proofs.working.work_deeds.Goals as goal
 
 -- there was no memory for the lines that tell of a fall
 pub returns-in-Err-clause-err : goal.returns-in-Err-clause-err
