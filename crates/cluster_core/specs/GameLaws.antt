@@ -22,7 +22,7 @@ use Rattle.cluster_rounds.specs.Kits.{device_by}
 use Rattle.cluster_lines.specs.Shelves.{shelf_of}
 use Rattle.group_cluster.specs.Seats.{Peers, IsGroup}
 use Rattle.group_cluster.specs.Group.{group}
-use Rattle.group_cluster.proofs.Ended.{line-tells, line-lacks}
+use Rattle.group_cluster.proofs.Ended.{end-walks, line-tells, line-lacks}
 use Rattle.group_cluster.proofs.Running.{start-steady, group-kept}
 use Rattle.group_cluster.proofs.Saying.{group-serves, group-spends}
 use Rattle.group_cluster.proofs.Walking as walking
@@ -85,6 +85,9 @@ end-facts setup state next told held left world ended steady =
     let last = line-tells 2 plain (is_plain setup) device next state ended.end steady ended.ends in
     record {
       keeps = last.0;
+      times =
+          (end-walks 2 plain (is_plain setup) device InTime (in_time-told plain) in_time-cored (in_time-by-kind plain)
+          next state ended.end steady ended.ends).entries;
       idle = last.1;
       lacks = λ calm. line-lacks 2 plain (is_plain setup) device next state ended.end steady calm ended.ends;
     }

@@ -1,39 +1,42 @@
--- Where a fault ends a run of two servers, all promises hold.
+-- Where a fault ends a run, what the servers' steps keep is kept, and all promises hold.
 use Rattle.std.proofs.Common.{◌≡◌, ℕ, ℤ, suc, Bool, false, if◌then◌else◌, List, ◌∷◌, ◌++◌, length, refl, ap, sym, ◌∙◌, subst, arith}
 use Rattle.script_lines.specs.declared.line.Line.{Line}
 use Rattle.script_lines.specs.declared.line.Line.TheVariants as line
 use Rattle.cluster_facts.specs.Types.{Call, Reply, Entry, Called, Receipted, Answer}
-use Rattle.cluster_facts.specs.Lists.{Stands, IsNumbered}
+use Rattle.cluster_facts.specs.Lists.{Stands, IsNumbered, without}
 use Rattle.cluster_facts.specs.Messages.{calls_in, messages_in}
 use Rattle.cluster_facts.specs.Service.{Plain, IsPlain}
 use Rattle.cluster_facts.specs.History.{Hand, Empty, Waiting, Applied, Ready, committed_by}
 use Rattle.cluster_facts.specs.World.{World}
 use Rattle.cluster_facts.specs.Facts.{IsSound, IsOfRun}
 use Rattle.cluster_facts.proofs.Words.{by_test, All-at, IsNumbered-bound}
-use Rattle.cluster_events.specs.Lines.{Stood}
+use Rattle.cluster_events.specs.Lines.{Told, Stood, is_ignored}
 use Rattle.cluster_events.specs.declared.lines.ServerRole.TheVariants as role
 use Rattle.cluster_events.specs.Outcomes.{Outcome}
-use Rattle.cluster_events.specs.Cores.{with_core}
+use Rattle.cluster_events.specs.Cores.{IsCored, with_core}
 use Rattle.cluster_events.specs.Servers.{State}
 use Rattle.cluster_events.specs.Devices.{Device}
 use Rattle.cluster_events.specs.Ending.{LacksLast, is_crash}
 use Rattle.cluster_events.specs.Saying.{Says}
-use Rattle.cluster_events.specs.Serving.{IsSteady}
+use Rattle.cluster_events.specs.Serving.{IsSteady, IsCarried}
 use Rattle.cluster_events.proofs.Telling.{Says-both}
 use Rattle.cluster_events.proofs.Promised.{Says-printed, at-end}
 use Rattle.cluster_events.proofs.Quiet.{answers-called}
 use Rattle.cluster_events.proofs.Runs.{any-says}
+use Rattle.cluster_events.proofs.Carrying.{IsTold}
+use Rattle.cluster_events.proofs.Walking.{ByKind, Others, IsByKind}
 use Rattle.group_cluster.specs.Seats.{Stance, Out, Owed, Linking, Standby, Peers, on_seats, Agree, AreNames, names_of, is_named, IsGroup, is_standby}
 use Rattle.group_cluster.specs.Falling.{catches, caught_seats, caught_hand, caught_lines, named}
 use Rattle.group_cluster.specs.Group.{group, group_start}
 use Rattle.group_cluster.specs.Running.{GroupStepBy}
 use Rattle.group_cluster.specs.Ended.{left_out, ended_by, ended, EndsGroup, EndsGroupStep, EndsSettle, GroupEnds, EndKeepsPromises, EndLacksReply}
 use Rattle.group_cluster.proofs.Seating.{all-made, apart-on, apart-caught, names-on, names-caught}
-use Rattle.group_cluster.proofs.Stepping.{over-sound, over-down, all-stood-go}
-use Rattle.group_cluster.proofs.Serving.{group-stepped}
+use Rattle.group_cluster.proofs.Stepping.{Bears, over-sound, over-down, all-stood-go}
+use Rattle.group_cluster.proofs.Serving.{group-carries, group-stepped}
 use Rattle.group_cluster.proofs.Saying.{says-borne, group-serves, group-says}
 use Rattle.group_cluster.proofs.Running.{start-steady, group-is-kept}
 use Rattle.group_cluster.proofs.Ends.{settle-tells}
+use Rattle.group_cluster.proofs.Walking.{told-bears}
 
 left-agrees : (stance : Stance) → Agree Empty (left_out stance)
 left-agrees Out = tt
@@ -62,13 +65,13 @@ lacks-last plain world past Empty entry is sound = cc
 lacks-last plain world past (Waiting other) entry is sound = cc
 lacks-last plain world past (Applied other) entry is sound = cc
 
-module _ (size : ℕ) (plain : Plain) (is_plain : IsPlain plain) (device : Device) where
-  abbrev Tells : State Peers → Outcome (State Peers) → Type 0
-  Tells state outcome = IsSteady plain (IsGroup size) outcome.state × Says plain state.world outcome.state.world outcome.told
+-- over any relation that the servers' steps and rounds keep, and that needs no lines on messages without effect
+module _ (size : ℕ) (plain : Plain) (is_plain : IsPlain plain) (device : Device) (R : World → World → List Told → Type 0) (bears : Bears plain R) (carried : IsCarried plain (group plain device) (IsGroup size) R) (printed : (old new : World) (told : List Told) → R old new told → R old new (without is_ignored told)) where
+  abbrev Keeps : State Peers → Outcome (State Peers) → Type 0
+  Keeps state outcome = IsSteady plain (IsGroup size) outcome.state × R state.world outcome.state.world outcome.told
 
-  ended-keeps : (state : State Peers) (catching : Bool) → IsSteady plain (IsGroup size) state → Tells state (ended_by catching state)
-  ended-keeps state catching steady =
-      let bears = says-borne plain in
+  caught-keeps : (state : State Peers) (catching : Bool) → IsSteady plain (IsGroup size) state → Keeps state (ended_by catching state)
+  caught-keeps state catching steady =
       let world = state.world in
       let past = world.core.answered in
       let hand = world.core.hand in
@@ -76,7 +79,7 @@ module _ (size : ℕ) (plain : Plain) (is_plain : IsPlain plain) (device : Devic
       let same : names_of (on_seats left_out seats) ≡ names_of state.peers.seats = names-on left_out seats ∙ names-caught catching state.peers.seats in
       let new = with_core (committed_by past (caught_hand catching hand)) Empty world in (
         record {
-          sound = over-sound size plain is_plain device (Says plain) bears world past catching hand steady.sound;
+          sound = over-sound size plain is_plain device R bears world past catching hand steady.sound;
           good = record {
             agree = all-made (Agree Empty) left_out left-agrees seats;
             waits = tt;
@@ -86,11 +89,11 @@ module _ (size : ℕ) (plain : Plain) (is_plain : IsPlain plain) (device : Devic
             acts = ap (is_named state.peers.acting) same ∙ steady.good.acts;
           };
         },
-        all-stood-go size plain is_plain device (Says plain) bears world new role.Down (named is_standby seats) (Stood state.peers.acting role.Down ∷ caught_lines catching past hand) (over-down size plain is_plain device (Says plain) bears world past catching hand state.peers.acting steady.sound),
+        all-stood-go size plain is_plain device R bears world new role.Down (named is_standby seats) (Stood state.peers.acting role.Down ∷ caught_lines catching past hand) (over-down size plain is_plain device R bears world past catching hand state.peers.acting steady.sound),
       )
 
-  pub ended-tells : (state : State Peers) → IsSteady plain (IsGroup size) state → Tells state (ended state)
-  ended-tells state steady = ended-keeps state (catches state.peers.seats state.world.core.hand) steady
+  ended-keeps : (state : State Peers) → IsSteady plain (IsGroup size) state → Keeps state (ended state)
+  ended-keeps state steady = caught-keeps state (catches state.peers.seats state.world.core.hand) steady
 
   -- what is left where a work ends: nothing is in hand, and the last entry has no reply
   abbrev IsLeft : State Peers → Type 0
@@ -102,35 +105,60 @@ module _ (size : ℕ) (plain : Plain) (is_plain : IsPlain plain) (device : Devic
   ready-left state (Waiting entry) other is = cc
   ready-left state (Applied entry) other is = cc
 
-  work-tells : (state : State Peers) (end : Outcome (State Peers)) → IsSteady plain (IsGroup size) state → EndsGroup device state end → Tells state end × IsLeft end.state
-  work-tells state end steady ends =
+  work-keeps : (state : State Peers) (end : Outcome (State Peers)) → IsSteady plain (IsGroup size) state → EndsGroup device state end → Keeps state end × IsLeft end.state
+  work-keeps state end steady ends =
       let past = state.world.core.answered in
       let hand = state.world.core.hand in
       let lacks = lacks-last plain state.world past hand ends.entry ends.ready steady.sound in
       let left = ready-left state hand ends.entry ends.ready in
       let L : List Entry → Type 0 = λ history. LacksLast history (messages_in state.world.net) in
-      subst (λ (o : Outcome (State Peers)). Tells state o × IsLeft o.state) (sym ends.is) (ended-tells state steady, (refl, subst L (sym left) lacks))
+      subst (λ (o : Outcome (State Peers)). Keeps state o × IsLeft o.state) (sym ends.is) (ended-keeps state steady, (refl, subst L (sym left) lacks))
 
   -- `settle`, with lines on messages without effect left out
-  settle-ends : (state : State Peers) (end : Outcome (State Peers)) → IsSteady plain (IsGroup size) state → EndsSettle plain device state end → Tells state end × IsLeft end.state
-  settle-ends state end steady ends =
-      let whole = settle-tells plain is_plain (group plain device) (IsGroup size) (group-serves size plain device is_plain) (Says plain) (group-says size plain device is_plain) (group-stepped size plain is_plain device (Says plain) (says-borne plain))
-      IsLeft (EndsGroupStep plain device) (λ now last good step. work-tells now last good step.works) state ends.whole steady ends.ends in
-      subst (λ (o : Outcome (State Peers)). Tells state o × IsLeft o.state) (sym ends.is) ((whole.0.0, Says-printed plain state.world ends.whole.state.world ends.whole.told whole.0.1), whole.1)
+  settle-keeps : (state : State Peers) (end : Outcome (State Peers)) → IsSteady plain (IsGroup size) state → EndsSettle plain device state end → Keeps state end × IsLeft end.state
+  settle-keeps state end steady ends =
+      let whole = settle-tells plain is_plain (group plain device) (IsGroup size) (group-serves size plain device is_plain) R carried (group-stepped size plain is_plain device R bears)
+      IsLeft (EndsGroupStep plain device) (λ now last good step. work-keeps now last good step.works) state ends.whole steady ends.ends in
+      subst (λ (o : Outcome (State Peers)). Keeps state o × IsLeft o.state) (sym ends.is) ((whole.0.0, printed state.world ends.whole.state.world ends.whole.told whole.0.1), whole.1)
 
-  -- the facts hold where the event of a line ends, its lines say what happened, and nothing is in hand
+  -- the facts and the relation hold where the event of a line ends, and nothing is in hand
+  line-keeps : (next : Line) (state : State Peers) (end : Outcome (State Peers)) → IsSteady plain (IsGroup size) state → GroupEnds plain device next state end → Keeps state end × (end.state.world.core.hand ≡ Empty)
+  line-keeps line.Work state end steady ends = let keeps = work-keeps state end steady ends in (keeps.0, keeps.1.0)
+  line-keeps (line.Crash server) state end steady ends =
+      subst (λ (o : Outcome (State Peers)). Keeps state o × (o.state.world.core.hand ≡ Empty)) (sym ends.is) (ended-keeps state steady, refl)
+  line-keeps line.Settle state end steady ends = let keeps = settle-keeps state end steady ends in (keeps.0, keeps.1.0)
+  line-keeps _ state end steady ends = elim ends [ ]
+
+  last-lacks : (next : Line) (state : State Peers) (end : Outcome (State Peers)) → IsSteady plain (IsGroup size) state → is_crash next ≡ false → GroupEnds plain device next state end → LacksLast end.state.world.core.answered (messages_in end.state.world.net)
+  last-lacks line.Work state end steady calm ends = (work-keeps state end steady ends).1.1
+  last-lacks line.Settle state end steady calm ends = (settle-keeps state end steady ends).1.1
+  last-lacks (line.Crash server) state end steady calm ends = cc
+  last-lacks _ state end steady calm ends = elim ends [ ]
+
+-- **where the event of a line ends, a relation that rounds and what servers make of history and hand keep is kept too**
+pub end-walks : (size : ℕ) (plain : Plain) → IsPlain plain → (device : Device) (R : ByKind) → IsTold plain (R Others) → IsCored (R Others) → IsByKind plain R → (next : Line) (state : State Peers) (end : Outcome (State Peers)) → IsSteady plain (IsGroup size) state → GroupEnds plain device next state end → R Others state.world end.state.world end.told
+end-walks size plain is_plain device R told cored by_kind next state end steady ends =
+    let bears = told-bears plain (R Others) told by_kind.shows cored in
+    let carried = group-carries size plain is_plain device (R Others) bears told in
+    (line-keeps size plain is_plain device (R Others) bears carried by_kind.printed next state end steady ends).0.1
+
+-- its lines say what happened
+module _ (size : ℕ) (plain : Plain) (is_plain : IsPlain plain) (device : Device) where
+  abbrev Tells : State Peers → Outcome (State Peers) → Type 0
+  Tells state outcome = IsSteady plain (IsGroup size) outcome.state × Says plain state.world outcome.state.world outcome.told
+
+  pub ended-tells : (state : State Peers) → IsSteady plain (IsGroup size) state → Tells state (ended state)
+  ended-tells state steady =
+      ended-keeps size plain is_plain device (Says plain) (says-borne plain) (group-says size plain device is_plain) (Says-printed plain) state steady
+
+  -- and nothing is in hand
   pub line-tells : (next : Line) (state : State Peers) (end : Outcome (State Peers)) → IsSteady plain (IsGroup size) state → GroupEnds plain device next state end → Tells state end × (end.state.world.core.hand ≡ Empty)
-  line-tells line.Work state end steady ends = let tells = work-tells state end steady ends in (tells.0, tells.1.0)
-  line-tells (line.Crash server) state end steady ends =
-      subst (λ (o : Outcome (State Peers)). Tells state o × (o.state.world.core.hand ≡ Empty)) (sym ends.is) (ended-tells state steady, refl)
-  line-tells line.Settle state end steady ends = let tells = settle-ends state end steady ends in (tells.0, tells.1.0)
-  line-tells _ state end steady ends = elim ends [ ]
+  line-tells next state end steady ends =
+      line-keeps size plain is_plain device (Says plain) (says-borne plain) (group-says size plain device is_plain) (Says-printed plain) next state end steady ends
 
   pub line-lacks : (next : Line) (state : State Peers) (end : Outcome (State Peers)) → IsSteady plain (IsGroup size) state → is_crash next ≡ false → GroupEnds plain device next state end → LacksLast end.state.world.core.answered (messages_in end.state.world.net)
-  line-lacks line.Work state end steady calm ends = (work-tells state end steady ends).1.1
-  line-lacks line.Settle state end steady calm ends = (settle-ends state end steady ends).1.1
-  line-lacks (line.Crash server) state end steady calm ends = cc
-  line-lacks _ state end steady calm ends = elim ends [ ]
+  line-lacks next state end steady calm ends =
+      last-lacks size plain is_plain device (Says plain) (says-borne plain) (group-says size plain device is_plain) (Says-printed plain) next state end steady calm ends
 
 pub end-keeps : EndKeepsPromises
 end-keeps size plain is_plain shelf calls device others can now places first lines state told mark next end run ends =

@@ -15,6 +15,7 @@ use Rattle.cluster_events.specs.Saying.{replies_told}
 use Rattle.cluster_events.specs.Filing.{FilesStand, IsKept, RecordsStay}
 use Rattle.cluster_events.specs.Promises.{AtEnd}
 use Rattle.cluster_events.specs.Servers.{State}
+use Rattle.cluster_rounds.specs.Timely.{AreTimely}
 use Rattle.service_laws.specs.Disks.{service_disk}
 use Rattle.service_laws.specs.PlainOf.{plain_of}
 use Rattle.service_laws.specs.StorageOf.{storage_of}
@@ -51,9 +52,11 @@ LeavesUnanswered true world told = Unit {0}
 LeavesUnanswered false world told = IsUnanswered world.core.answered (messages_in world.net) told
 
 -- the disk had a fault that left no server active: history, replies, callbacks and posts are as at the end of a line, with all lines
--- that were told, and the disk, where it tells its files, keeps what was answered before the last entry
-pub record EndKeeps (setup : Setup) (crashes : Bool) (world : World) (told : List Told) (left : Option Files) : Type 0 where
+-- that were told; what was committed in the line that the fault ended is of the time in force, or waited before that line; and the disk,
+-- where it tells its files, keeps what was answered before the last entry
+pub record EndKeeps (setup : Setup) (crashes : Bool) (old world : World) (line told : List Told) (left : Option Files) : Type 0 where
   pub promises : AtEnd (plain_of setup) world told
+  pub times : AreTimely old line
   pub tells : TellsEach setup world
   pub answers : AnswersOnly setup world
   pub unanswered : LeavesUnanswered crashes world told
@@ -73,7 +76,8 @@ module _ {P L S W : Type 0} (game : Game P L S W) where
   FaultKeeps setup state next held left world lines before (Showing shows_files shows read rose none) =
       ShowKeeps setup state.world left.files
   FaultKeeps setup state next held left world lines before (Ending told ended printed) =
-      EndKeeps setup (game.crashes next) (game.end setup state next told held left world ended).state.world (told ++ before) left.files
+      EndKeeps setup (game.crashes next) state.world (game.end setup state next told held left world ended).state.world told (told ++ before)
+      left.files
 
   -- so it is behind each front of a script that was played on a disk that told these files before, wherever a fault in the next line
   -- left the world and the disk as they are now

@@ -34,7 +34,7 @@ use Rattle.cluster_rounds.specs.Kits.{device_by}
 use Rattle.cluster_lines.specs.Shelves.{shelf_of}
 use Rattle.group_cluster.specs.Seats.{Peers, IsGroup, standing_group}
 use Rattle.group_cluster.specs.Group.{group, mirror_at, ack_at}
-use Rattle.group_cluster.proofs.Ended.{line-tells, line-lacks}
+use Rattle.group_cluster.proofs.Ended.{end-walks, line-tells, line-lacks}
 use Rattle.group_cluster.proofs.Lines.{at-steps, back-steps}
 use Rattle.group_cluster.proofs.Running.{start-steady, group-kept}
 use Rattle.group_cluster.proofs.Saying.{group-serves, group-spends, says-borne}
@@ -170,6 +170,9 @@ end-facts setup state next told held left world ended steady =
     let last = line-tells 3 plain (is_plain setup) device (group_line next) state ended.end steady ended.ends in
     record {
       keeps = last.0;
+      times =
+          (end-walks 3 plain (is_plain setup) device InTime (in_time-told plain) in_time-cored (in_time-by-kind plain)
+          (group_line next) state ended.end steady ended.ends).entries;
       idle = last.1;
       lacks = λ calm. line-lacks 3 plain (is_plain setup) device (group_line next) state ended.end steady calm ended.ends;
     }

@@ -20,7 +20,7 @@ use cluster_rounds::Cluster;
 use disk_model::{DiskAnswer, NoDisk, SharedDisk};
 use event_text::put_refused_text;
 use group_servers::{Group, ack_at, mirror_at, standing_of};
-use script_lines::{Line, Server};
+use script_lines::{Line, Server, let_line_go};
 use std::alloc::{AllocError, Global};
 use std::mem;
 use std::sync::Wait;
@@ -153,7 +153,7 @@ fn play_third<R: Threads + Wait + Sync, D: SharedDisk, G: Gate>(
     let third = third_line(line);
     let mut beside = NoDisk::new();
     let played = play(rt, alloc, parts, lines, &third, disk, &mut beside, gate);
-    mem::drop(third);
+    let_line_go(third);
     played
 }
 

@@ -6,7 +6,7 @@ use Rattle.cluster_rounds.specs.Worlds.{Does}
 use Rattle.group_cluster.specs.Group.{ack_at}
 use Rattle.group_servers.specs.GroupKit.{group_kit}
 use Rattle.group_servers.specs.Steps.{StepsBy}
-use Rattle.group_servers.proofs.HearBroken.{same-untold}
+use Rattle.group_servers.proofs.GoodSteps.{same-untold}
 use Rattle.spare_server.specs.Happening.{name_of}
 use Rattle.spare_server.specs.Lines.{refused_as}
 use Rattle.spare_server.proofs.OwnSteps.{ack-does, ack-refused}
