@@ -129,7 +129,7 @@ module _ {P L S W : Type 0} (game : Game P L S W) (is_game : IsGame game) where
     leaves-unanswered true world told lacks = tt
     leaves-unanswered false world told lacks = lacks refl
 
-    ended-keeps : (next : L) (told : List Told) (left : DiskSeen) (world : W) → (ended : game.Ended setup goes.state next told ((seen_behind game) goes) left world) → EndKeeps setup (game.crashes next) (game.end setup goes.state next told ((seen_behind game) goes) left world ended).state.world ((game.end setup goes.state next told ((seen_behind game) goes) left world ended).told ++ goes.told) left.files
+    ended-keeps : (next : L) (told : List Told) (left : DiskSeen) (world : W) → (ended : game.Ended setup goes.state next told ((seen_behind game) goes) left world) → EndKeeps setup (game.crashes next) goes.state.world (game.end setup goes.state next told ((seen_behind game) goes) left world ended).state.world (game.end setup goes.state next told ((seen_behind game) goes) left world ended).told ((game.end setup goes.state next told ((seen_behind game) goes) left world ended).told ++ goes.told) left.files
     ended-keeps next told left world ended =
         let plain = plain_of setup in
         let last = game.end setup goes.state next told ((seen_behind game) goes) left world ended in
@@ -149,6 +149,7 @@ module _ {P L S W : Type 0} (game : Game P L S W) (is_game : IsGame game) where
         let promises = at-end plain end lines setup.start places sound says in
         record {
           promises = promises;
+          times = facts.times;
           tells = each-told setup end promises.items;
           answers = answers-only setup start end lines sound empty says;
           unanswered = leaves-unanswered (game.crashes next) end lines (λ calm. unanswered setup start end lines sound empty says past (facts.lacks calm));
@@ -166,7 +167,7 @@ module _ {P L S W : Type 0} (game : Game P L S W) (is_game : IsGame game) where
     fault-keeps next left world lines (Ending told ended printed) =
         let end = game.end setup goes.state next told ((seen_behind game) goes) left world ended in
         let stands = is_game.stands setup goes.state next told ((seen_behind game) goes) left world ended in
-        let K : List Told → Type 0 = λ one. EndKeeps setup (game.crashes next) end.state.world (one ++ goes.told) left.files in
+        let K : List Told → Type 0 = λ one. EndKeeps setup (game.crashes next) goes.state.world end.state.world one (one ++ goes.told) left.files in
         subst K (sym stands.printed) (ended-keeps next told left world ended)
 
   pub keeps-at-fault : (held : Option Files) (left : DiskSeen) (world : W) → (KeepsAtFault game) held left world

@@ -1,5 +1,6 @@
 pub mod CountSteps
 pub mod WritingSteps
+pub mod PackingSteps
 pub mod Cores
 pub mod PlayLaws
 pub mod PromiseLaws

@@ -17,6 +17,7 @@ use Rattle.cluster_events.specs.Saying.{Says}
 use Rattle.cluster_events.specs.Serving.{IsSteady}
 use Rattle.cluster_events.specs.Settled.{IsSettled}
 use Rattle.cluster_rounds.specs.Broken.{LeavesBetween}
+use Rattle.cluster_rounds.specs.Timely.{AreTimely}
 use Rattle.cluster_rounds.specs.Worlds.{TellsFiles}
 use Rattle.service_laws.specs.PlainOf.{plain_of}
 use Rattle.played_runs.specs.Games.{Game}
@@ -34,9 +35,11 @@ pub record DoneFacts {P L S W : Type 0} (game : Game P L S W) (setup : Setup) (n
   pub refuses : Refuses (kind_by (game.shared next)) state.world outcome.state.world outcome.told
   pub waits : Waits (kind_by (game.shared next)) state.world outcome.state.world outcome.told
 
--- and where a fault of the disk ended it: nothing is in hand, and no reply is posted to the last call, whose work failed, but behind a crash
+-- and where a fault of the disk ended it: what it committed is of the time in force, or waited before it; nothing is in hand, and no reply
+-- is posted to the last call, whose work failed, but behind a crash
 pub record EndFacts {P L S W : Type 0} (game : Game P L S W) (setup : Setup) (next : L) (state : State P) (end : Outcome (State P)) : Type 0 where
   pub keeps : Keeps game setup state end.state end.told
+  pub times : AreTimely state.world end.told
   pub idle : end.state.world.core.hand ≡ Empty
   pub lacks : game.crashes next ≡ false → LacksLast end.state.world.core.answered (messages_in end.state.world.net)
 

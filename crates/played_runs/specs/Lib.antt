@@ -10,6 +10,7 @@ pub mod Counts
 pub mod ExitStatus
 pub mod Edges
 pub mod Writing
+pub mod Packing
 pub mod Ends
 pub mod AfterFault
 pub mod Steps

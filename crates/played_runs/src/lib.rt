@@ -3,6 +3,7 @@
 #![tactic(auto)]
 
 mod ending;
+mod packing;
 mod passing;
 mod playable;
 mod playing;

@@ -7,9 +7,13 @@ ghost use Rattle.played_runs.specs.Ends.{fault_line};
 ghost use Rattle.played_runs.specs.Writing.{EndWritten, IsNever, IsText, Written, joined_lines, sink_status};
 
 use crate::ending::{End, FAULT_LINE, Status8};
+use crate::packing::write_packed;
 use ais_values::Seq;
 use io_edge::{Sink, SinkAnswer, write_all};
 use std::alloc::AllocError;
+
+/// So few lines are not worth the room of a piece.
+const FEW: usize = 2;
 
 /// The status where the sink did not take all.
 pub fn unwritten(answer: SinkAnswer) -> Status8
@@ -21,8 +25,8 @@ pub fn unwritten(answer: SinkAnswer) -> Status8
     }
 }
 
-/// Writes lines, one after another.
-pub fn write_lines<K: Sink>(out: &mut K, lines: &[Seq<u8>]) -> Result<(), SinkAnswer>
+/// Writes each of these lines by itself.
+fn write_each<K: Sink>(out: &mut K, lines: &[Seq<u8>]) -> Result<(), SinkAnswer>
     ensures bytes { WritesAll (K.written out.old) (K.written out.new) (joined_lines lines.now)
         result }
     ensures cause { RoseExactlyOn (K.faults out.old) (K.faults out.new) result SinkAnswer.Failed }
@@ -34,6 +38,18 @@ pub fn write_lines<K: Sink>(out: &mut K, lines: &[Seq<u8>]) -> Result<(), SinkAn
         }
     }
     Ok(())
+}
+
+/// Writes lines, one after another.
+pub fn write_lines<K: Sink>(out: &mut K, lines: &[Seq<u8>]) -> Result<(), SinkAnswer>
+    ensures bytes { WritesAll (K.written out.old) (K.written out.new) (joined_lines lines.now)
+        result }
+    ensures cause { RoseExactlyOn (K.faults out.old) (K.faults out.new) result SinkAnswer.Failed }
+{
+    if lines.len() > FEW {
+        return write_packed(out, lines);
+    }
+    write_each(out, lines)
 }
 
 /// Writes lines, and behind them the one that tells of a disk fault.

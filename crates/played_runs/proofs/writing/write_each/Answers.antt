@@ -2,7 +2,7 @@ use Rattle.std.proofs.Common.{subst}
 use Rattle.io_edge.specs.Writes.{AppendsFront}
 use Rattle.played_runs.proofs.CountSteps.{rose-behind}
 use Rattle.played_runs.proofs.WritingSteps.{lines-front}
-use Rattle.played_runs.proofs.writing.write_lines.Goals as goal
+use Rattle.played_runs.proofs.writing.write_each.Goals as goal
 
 pub returns-in-Err-clause-bytes : goal.returns-in-Err-clause-bytes
 returns-in-Err-clause-bytes g c =
