@@ -14,6 +14,7 @@ use Rattle.calls.specs.History.{Pushed}
 use Rattle.wire.specs.declared.message.Message.{Message}
 use Rattle.wire.specs.declared.message.Message.TheVariants as wire
 use Rattle.wire.specs.MessageSpelling.{message_text}
+use Rattle.wire.specs.Mirrored.{entry_in}
 use Rattle.plain_service.specs.Setups.{Setup}
 use Rattle.service_laws.specs.PlainOf.{plain_of}
 use Rattle.service_laws.proofs.ServiceLaws.{is_plain}
@@ -43,7 +44,7 @@ use Rattle.cold_cluster.specs.Cold.{Alone, IsCold, append_count, at_rest, seats_
 use Rattle.cold_cluster.specs.Lines.{IsLeft}
 use Rattle.lone_server.specs.declared.lone.Lone.{Lone}
 use Rattle.cold_servers.specs.declared.solo.Solo.{Solo}
-use Rattle.lone_server.specs.Appends.{AppendsCalls, confirmed_by, entry_in}
+use Rattle.lone_server.specs.Appends.{AppendsCalls, confirmed_by}
 use Rattle.cold_servers.specs.ColdKit.{cold_kit}
 use Rattle.cold_servers.specs.ColdLaws.{cold_laws, left-told}
 use Rattle.cold_servers.specs.ColdNodes.{OwnBy, journal_by, link_by, up_by}

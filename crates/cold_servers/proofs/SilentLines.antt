@@ -54,7 +54,7 @@ use Rattle.cluster_rounds.proofs.BrokenSteps.{shown-ends}
 use Rattle.cluster_lines.specs.Answers.{EndsAs}
 use Rattle.cluster_lines.specs.Lines.{IsOwn}
 use Rattle.cluster_lines.specs.Playing.{BreaksOff, FaultLeaves, Plays}
-use Rattle.cluster_lines.proofs.LineSteps.{moment-same}
+use Rattle.plain_service.proofs.MomentLaws.{moment-same}
 use Rattle.lone_server.specs.declared.lone.Lone.{Lone}
 use Rattle.lone_server.specs.Working.{CanHearAll}
 use Rattle.cold_servers.specs.declared.solo.Solo.{Solo}

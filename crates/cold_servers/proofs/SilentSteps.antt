@@ -6,6 +6,7 @@ use Rattle.calls.specs.declared.entry.Held.{Held}
 use Rattle.calls.specs.declared.saved.Saved.{Saved}
 use Rattle.wire.specs.MessageSpelling.{MessageInRange, message_text}
 use Rattle.wire.specs.declared.message.Message.TheVariants as wire
+use Rattle.wire.specs.Mirrored.{entry_in}
 use Rattle.service_core.specs.Applying.{is_new_in, next_in}
 use Rattle.service_core.specs.Valuing.{reply_by_value, value_after}
 use Rattle.service_laws.specs.PlainOf.{item_message}
@@ -34,7 +35,7 @@ use Rattle.cluster_rounds.specs.declared.cluster.Cluster.{Cluster}
 use Rattle.cluster_rounds.specs.Wild.{AreClients, ShowsClients}
 use Rattle.cluster_rounds.proofs.WildSteps.{posted-range}
 use Rattle.lone_server.specs.declared.lone.Lone.{Lone}
-use Rattle.lone_server.specs.Appends.{confirmed_by, entry_in}
+use Rattle.lone_server.specs.Appends.{confirmed_by}
 use Rattle.lone_server.specs.Joining.{CommitsJoined, JoinsOne}
 use Rattle.lone_server.specs.Working.{CanHearAll, HearsOne, worked_lone}
 use Rattle.cold_servers.specs.declared.solo.Solo.{Solo}

@@ -11,6 +11,7 @@ use Rattle.disk_model.specs.declared.answers.DiskAnswer.{DiskAnswer}
 use Rattle.disk_model.specs.declared.answers.DiskAnswer.TheVariants.{Memory, Failed, Stopped}
 use Rattle.disk_model.specs.declared.tally.Tally.{Tally}
 use Rattle.wire.specs.MessageSpelling.{message_text}
+use Rattle.wire.specs.Mirrored.{entry_in}
 use Rattle.service_laws.specs.PlainOf.{plain_of}
 use Rattle.service_laws.proofs.ServiceLaws.{is_plain}
 use Rattle.cluster_facts.specs.Types.{Entry, Message}
@@ -27,7 +28,7 @@ use Rattle.cluster_rounds.specs.declared.cluster.Cluster.{Cluster}
 use Rattle.cluster_rounds.specs.Wild.{GoesWild, IsWild, WildOn, always}
 use Rattle.cluster_lines.specs.Answers.{DoneAtStop}
 use Rattle.lone_server.specs.declared.lone.Lone.{Lone}
-use Rattle.lone_server.specs.Appends.{AppendsCalls, entry_in}
+use Rattle.lone_server.specs.Appends.{AppendsCalls}
 use Rattle.lone_server.specs.Falls.{downed, unarmed}
 use Rattle.lone_server.specs.Joining.{CommitsJoined, EndsWith, JoinBreaks, Joins, JoinsOver, left_by}
 use Rattle.lone_server.specs.Working.{EndsWork, HearsBack, WorkBreaks, Works, WorksOver}

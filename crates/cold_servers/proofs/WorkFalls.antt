@@ -1,5 +1,5 @@
 -- A work that breaks off: where the record disk stops the cluster goes on, a fault ends the event, and memory may be wanting.
-use Rattle.std.proofs.Common.{◌≡◌, ◌⊎◌, inl, inr, ℕ, ◌+◌, suc, ◌≤◌, Bool, true, Option, Some, None, List, [], ◌∷◌, ◌++◌, length, refl, ap, sym, subst, arith, le_refl, length-append}
+use Rattle.std.proofs.Common.{◌≡◌, inl, inr, ℕ, ◌+◌, suc, ◌≤◌, Bool, true, Option, Some, None, List, [], ◌∷◌, ◌++◌, length, refl, ap, sym, subst, arith, le_refl, length-append}
 use Rattle.std.specs.Prelude.{is_some, IsSome, Result, Ok, Err}
 use Rattle.std.proofs.lemmas.Bool.Decides.{nat_tests}
 use Rattle.disk_model.specs.Counts.{CountsBroken, reaches}
@@ -15,10 +15,9 @@ use Rattle.service_laws.specs.Disks.{service_disk}
 use Rattle.service_laws.specs.PlainOf.{plain_of}
 use Rattle.service_laws.specs.StorageOf.{storage_of}
 use Rattle.service_laws.proofs.ServiceLaws.{is_plain}
-use Rattle.cluster_facts.specs.Types.{Entry, Called, Receipted, Answer}
+use Rattle.cluster_facts.specs.Types.{Entry}
 use Rattle.cluster_facts.specs.History.{Ready}
 use Rattle.cluster_facts.specs.Lists.{EndsIn}
-use Rattle.cluster_facts.specs.Messages.{Posting}
 use Rattle.cluster_facts.specs.Storage.{Between}
 use Rattle.cluster_facts.specs.World.{World}
 use Rattle.cluster_events.specs.declared.lines.ServerRole.TheVariants.{Down}
@@ -29,7 +28,6 @@ use Rattle.cluster_clients.proofs.DispatchSteps.{agents-as}
 use Rattle.event_text.specs.Texts.{server_line}
 use Rattle.group_cluster.specs.Answering.{net_answering}
 use Rattle.mirror.specs.declared.heard.Heard.{Heard}
-use Rattle.mirror.specs.Replicas.{replies_owed}
 use Rattle.mirror.specs.Working.{deeds_in, replies_in}
 use Rattle.journal_start.specs.Journals.{PerformsOrLacks}
 use Rattle.cluster_rounds.specs.declared.cluster.Cluster.{Cluster}
@@ -43,7 +41,7 @@ use Rattle.cluster_rounds.proofs.UnaskedSteps.{unasked-same}
 use Rattle.cold_cluster.specs.Cold.{Alone}
 use Rattle.cold_cluster.specs.Falling.{fallen}
 use Rattle.cold_cluster.proofs.Keeping.{falls}
-use Rattle.lead_rounds.proofs.HearBroken.{posts-none, posts-one}
+use Rattle.lead_rounds.proofs.ReplySteps.{answer-breaks}
 use Rattle.lone_server.specs.declared.lone.Lone.{Lone}
 use Rattle.cold_servers.specs.declared.solo.Solo.{Solo}
 use Rattle.lone_server.specs.Falls.{downed, unarmed}
@@ -95,12 +93,6 @@ reached-by count calls (Some left) few reached = grind (arith, nat_tests)
 pub between-told : (setup : Setup) (past : List Entry) (held left : Option Files) → LeavesBetween setup past held left → LeavesTold (Between service_disk (storage_of setup) past) held left
 between-told setup past None left between = between
 between-told setup past (Some files) left between = between
-
--- the reply was posted or not
-answer-breaks : (setup : Setup) (past : List Entry) (entry : Entry) (net : List Posting) (old new : List (List ℕ)) → PostsSome (replies_owed setup past entry) old new → AreSpelled net old → AreSpelled net new ⊎ AreSpelled (net_answering (plain_of setup) past entry net) new
-answer-breaks setup past (Called client number time call) net old new posts spelled =
-    posts-one setup (Answer client number ((plain_of setup).reply past client number time call)) net old new posts spelled
-answer-breaks setup past (Receipted client key through time) net old new posts spelled = inl (posts-none setup net old new posts spelled)
 
 module _ (setup : Setup) (world : World) (entry : Entry) (keeps : Bool) (armed beside : Option ℕ) (old : Cluster Solo) (servers : Lone) (net : List (List ℕ)) (good : IsGood cold_kit setup (ready_at world entry keeps armed beside)) (shows : Shows cold_kit setup (ready_at world entry keeps armed beside) old) where
   abbrev past : List Entry

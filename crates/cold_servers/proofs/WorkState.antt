@@ -25,10 +25,8 @@ use Rattle.cluster_events.specs.Events.{step_or_refuse, work_next}
 use Rattle.cluster_events.specs.Outcomes.{Outcome}
 use Rattle.cluster_events.specs.Servers.{State, advances, after_step}
 use Rattle.cluster_clients.specs.Posted.{PostsAll}
-use Rattle.cluster_clients.specs.Spelled.{AreSpelled}
 use Rattle.cluster_clients.proofs.DispatchSteps.{agents-as}
 use Rattle.cluster_clients.proofs.ToldLines.{not-less}
-use Rattle.event_text.specs.Texts.{printed}
 use Rattle.group_cluster.specs.Answering.{lines_answering, net_answering}
 use Rattle.group_cluster.specs.Group.{work_as}
 use Rattle.group_cluster.specs.Seats.{Clear}
@@ -43,6 +41,7 @@ use Rattle.cluster_rounds.specs.Rounds.{EventOver, advances_by}
 use Rattle.cluster_rounds.specs.Came.{Came}
 use Rattle.cluster_rounds.specs.Worlds.{IsGood, Shows}
 use Rattle.cluster_rounds.proofs.HearSteps.{IsQuiet, quiet-answer}
+use Rattle.lead_rounds.proofs.ReplySteps.{answer-posts}
 use Rattle.cold_cluster.specs.Cold.{Alone, IsCold, alone_by, calm, paired, seats_with}
 use Rattle.cold_cluster.specs.Lines.{IsLeft}
 use Rattle.lone_server.specs.declared.lone.Lone.{Lone}
@@ -153,10 +152,6 @@ left-worked zero (Some count) left short = omega (arith, left)
 left-worked (suc calls) (Some count) left short = left-lowered (suc calls) (Some count) (omega arith) short
 
 -- The reply, and its line.
-
-pub answer-posts : (setup : Setup) (past : List Entry) (entry : Entry) (net : List Posting) (old new before after : List (List ℕ)) → PostsAll (replies_owed setup past entry) old new before after → AreSpelled net old → AreSpelled (net_answering (plain_of setup) past entry net) new × (after ≡ before ++ printed (lines_answering (plain_of setup) past entry net))
-answer-posts setup past (Called client number time call) net old new before after posts spelled = posts (plain_of setup) net (is_plain setup) spelled
-answer-posts setup past (Receipted client key through time) net old new before after posts spelled = posts (plain_of setup) net (is_plain setup) spelled
 
 pub answer-quiet : (setup : Setup) (past : List Entry) (entry : Entry) (net : List Posting) → IsQuiet (lines_answering (plain_of setup) past entry net)
 answer-quiet setup past (Called client number time call) net =

@@ -16,7 +16,7 @@ ghost use Rattle.command_journal.specs.Worlds.{both, empty_cold};
 
 use crate::{ColdWorld, EventAnswer};
 use ais_values::{Seq, StreamKind};
-use calls::History;
+use calls::{Boxed, History, Saved};
 use disk_model::{DiskAnswer, SharedDisk};
 use journal_start::Journal;
 use lone_server::link_journal;
@@ -73,6 +73,14 @@ fn start_linked(alloc: Global, service: Service) -> Result<Node, AllocError>
     }
 }
 
+/// The value of a service, by itself in memory.
+fn saved_of(alloc: Global, service: &Service) -> Result<Boxed<Saved>, AllocError>
+    ensures { IfOk result (λ saved. saved ≡ service.now) }
+{
+    let saved = service.save(alloc)?;
+    Boxed::new(alloc, saved)
+}
+
 /// The server at the start, the message that brings the value of its service, and the deeds of the start.
 fn start_from(
     alloc: Global,
@@ -88,7 +96,7 @@ fn start_from(
         Ok(made) => made,
         Err(error) => return Err(error),
     };
-    let saved = match service.save(alloc) {
+    let saved = match saved_of(alloc, &service) {
         Ok(saved) => saved,
         Err(error) => {
             let_node_go(Node::start(alloc, Role::Active, service));

@@ -7,9 +7,9 @@ ghost use Rattle.mirror.specs.Pairing.{Admits};
 ghost use Rattle.journal_start.specs.Replays.{first_byte, node_of, number_behind, HasFollowed, IsRead, IsTaken, PassesAs, ReadsNext};
 
 use ais_values::Seq;
-use calls::Entry;
+use calls::{Entry, let_entries_go, let_entry_go};
 use journal_frames::read_frame;
-use mirror::{Heard, Node};
+use mirror::{Heard, Node, let_node_go};
 use std::alloc::{AllocError, Global};
 use wire::{Message, WireAnswer, decode, let_message_go, let_messages_go};
 
@@ -40,7 +40,7 @@ fn number_behind(message: &Message) -> u64
     ensures { result ≡ number_behind message.now }
 {
     match message {
-        Message::Snapshot { saved } => saved.number,
+        Message::Snapshot { saved } => saved.get().number,
         Message::Mirror { number, entry: _ } => *number,
         _ => 0,
     }
@@ -88,10 +88,13 @@ fn add(entries: &mut Vec<Entry>, entry: Option<Entry>) -> Result<(), AllocError>
 {
     match entry {
         None => Ok(()),
-        Some(entry) => {
-            entries.push(entry)?;
-            Ok(())
-        }
+        Some(entry) => match entries.push(entry) {
+            Ok(()) => Ok(()),
+            Err(failed) => {
+                let_entry_go(Some(failed.value));
+                Err(AllocError)
+            }
+        },
     }
 }
 
@@ -193,9 +196,15 @@ pub fn replay(alloc: Global, bytes: &[u8]) -> Result<Replayed, ReplayAnswer>
             Ok(Some(behind)) => behind,
             Ok(None) => {
                 let place = (bytes.len() - rest.len()) as u64;
+                let_node_go(node);
+                let_entries_go(Seq::from_vec(entries));
                 return Err(ReplayAnswer::Refused { place });
             }
-            Err(_) => return Err(ReplayAnswer::Memory),
+            Err(_) => {
+                let_node_go(node);
+                let_entries_go(Seq::from_vec(entries));
+                return Err(ReplayAnswer::Memory);
+            }
         };
     }
     Ok(Replayed {

@@ -6,9 +6,10 @@ use Rattle.disk_model.specs.Seen.{DiskSeen}
 use Rattle.disk_model.specs.declared.answers.DiskAnswer.TheVariants.{Memory}
 use Rattle.calls.specs.declared.entry.Entry.{Entry}
 use Rattle.wire.specs.declared.message.Message.{Message}
+use Rattle.wire.specs.Mirrored.{entry_in}
 use Rattle.lead_server.specs.Told.{Commits}
 use Rattle.lone_server.specs.declared.lone.Lone.{Lone}
-use Rattle.lone_server.specs.Appends.{AppendsCalls, JoinsFirst, LosesFirst, confirmed_by, entry_in}
+use Rattle.lone_server.specs.Appends.{AppendsCalls, JoinsFirst, LosesFirst, confirmed_by}
 use Rattle.lone_server.specs.Falls.{downed}
 use Rattle.lone_server.specs.Joining.{CommitsJoined, CommitsOrNot, FirstOrNot, JoinsOne, JoinsOver}
 

@@ -2,19 +2,13 @@
 use Rattle.std.specs.Prelude.{◌≡◌, ℕ, Option, Some, None, List, [], ◌∷◌, ◌++◌, Result, IsOk}
 use Rattle.disk_model.specs.Seen.{DiskSeen}
 use Rattle.disk_model.specs.declared.answers.DiskAnswer.{DiskAnswer}
-use Rattle.calls.specs.declared.entry.Entry.{Entry}
 use Rattle.wire.specs.declared.message.Message.{Message}
-use Rattle.wire.specs.declared.message.Message.TheVariants.{Mirror, MirrorAck}
+use Rattle.wire.specs.declared.message.Message.TheVariants.{MirrorAck}
 use Rattle.wire.specs.MessageSpelling.{message_text}
 use Rattle.journal_frames.specs.Frames.{append_calls}
 use Rattle.journal_found.specs.Found.{CanJoin}
 use Rattle.journal_start.specs.Journals.{PerformsOrLacks, pushed}
 use Rattle.lone_server.specs.declared.lone.Lone.{Lone}
-
--- the entry of a message that mirrors one
-abbrev pub entry_in : Message → Option (ℕ × Entry)
-entry_in (Mirror number entry) = Some (number, entry)
-entry_in _ = None
 
 -- it joined, or there was none
 pub record JoinsFirst (message : Message) (old new : Lone) : Type 0 where

@@ -7,13 +7,14 @@ use Rattle.script_lines.specs.declared.line.Server.TheVariants.{A}
 use Rattle.calls.specs.declared.entry.Entry.{Entry}
 use Rattle.wire.specs.declared.message.Message.{Message}
 use Rattle.wire.specs.MessageSpelling.{message_text}
+use Rattle.wire.specs.Mirrored.{entry_in}
 use Rattle.cluster_events.specs.declared.lines.ServerRole.TheVariants.{Down}
 use Rattle.event_text.specs.Texts.{server_line}
 use Rattle.lead_server.specs.Told.{Commits}
 use Rattle.journal_found.specs.Found.{CanJoin}
 use Rattle.journal_start.specs.Journals.{pushed}
 use Rattle.lone_server.specs.declared.lone.Lone.{Lone}
-use Rattle.lone_server.specs.Appends.{AppendsCalls, FirstCanJoin, confirmed_by, entry_in}
+use Rattle.lone_server.specs.Appends.{AppendsCalls, FirstCanJoin, confirmed_by}
 use Rattle.lone_server.specs.Falls.{downed, unarmed}
 
 -- the entry that joined is committed, and that it joined is on the way back; a message without one, which is never on the way, changes

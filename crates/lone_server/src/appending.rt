@@ -4,28 +4,14 @@ ghost use Rattle.std.specs.List.{AllByRecursion};
 ghost use Rattle.ais_values.specs.Causes.{RoseExactlyOn};
 ghost use Rattle.disk_model.specs.declared.answers.DiskAnswer.{DiskAnswer};
 ghost use Rattle.wire.specs.MessageSpelling.{MessageInRange};
-ghost use Rattle.lone_server.specs.Appends.{confirmed_by, entry_in, AppendsCalls, AppendsFirst, FirstCanJoin, LosesFirst};
+ghost use Rattle.lone_server.specs.Appends.{confirmed_by, AppendsCalls, AppendsFirst, FirstCanJoin, LosesFirst};
 
 use crate::Lone;
 use ais_values::Seq;
-use calls::Entry;
 use disk_model::{DiskAnswer, SharedDisk};
 use lead_server::{send_all, take_first};
 use std::alloc::{AllocError, Global};
 use wire::{Message, let_message_go};
-
-/// The number and the entry that a message brings, if it mirrors one.
-pub fn mirrored(message: Message) -> Option<(u64, Entry)>
-    ensures { result ≡ entry_in message }
-{
-    match message {
-        Message::Mirror { number, entry } => Some((number, entry)),
-        other => {
-            let_message_go(Some(other));
-            None
-        }
-    }
-}
 
 /// Appends the first message on the way to the journal, if there is one, and answers with it: it is in the journal then.
 ///

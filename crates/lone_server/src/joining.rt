@@ -4,10 +4,10 @@ ghost use Rattle.std.specs.List.{AllByRecursion};
 ghost use Rattle.ais_values.specs.Causes.{RoseExactlyOn};
 ghost use Rattle.disk_model.specs.declared.answers.DiskAnswer.{DiskAnswer};
 ghost use Rattle.wire.specs.MessageSpelling.{MessageInRange};
-ghost use Rattle.lone_server.specs.Appends.{entry_in};
+ghost use Rattle.wire.specs.Mirrored.{entry_in};
 ghost use Rattle.lone_server.specs.Joining.{CommitsJoined, CommitsOrNot, JoinBreaks, Joins, JoinsOver};
 
-use crate::appending::{append_first, mirrored, put_back};
+use crate::appending::{append_first, put_back};
 use crate::{Lone, fall};
 use ais_values::Seq;
 use calls::{Entry, History, let_entry_go};
@@ -17,7 +17,7 @@ use event_text::put_server;
 use lead_server::commit;
 use script_lines::Server;
 use std::alloc::{AllocError, Global};
-use wire::Message;
+use wire::{Message, mirrored};
 
 /// Whether there are no messages.
 pub fn is_clear(messages: &Seq<Message>) -> bool
@@ -68,7 +68,7 @@ fn commit_joined(
         history.new.entries) }
     ensures armed { servers.new.armed ≡ servers.old.armed }
 {
-    match mirrored(message) {
+    match mirrored(Some(message)) {
         Some((number, entry)) => commit_one(alloc, servers, history, lines, number, entry),
         None => Ok(()),
     }

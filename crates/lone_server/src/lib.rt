@@ -7,7 +7,7 @@ mod lone;
 mod restarting;
 mod working;
 
-pub use appending::{append_first, mirrored, put_back};
+pub use appending::{append_first, put_back};
 pub use joining::{is_clear, join_journal};
 pub use lone::{Lone, fall};
 pub use restarting::{come_back, link_journal};

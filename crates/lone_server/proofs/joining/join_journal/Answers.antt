@@ -2,7 +2,8 @@ use Rattle.std.proofs.Common.{◌≡◌, [], Ok, Err, Some, refl, ap, length, su
 use Rattle.disk_model.specs.Seen.{DiskSeen}
 use Rattle.disk_model.specs.declared.answers.DiskAnswer.TheVariants.{Memory, Failed, Stopped}
 use Rattle.lone_server.specs.declared.lone.Lone.{Lone}
-use Rattle.lone_server.specs.Appends.{FirstCanJoin, entry_in}
+use Rattle.wire.specs.Mirrored.{entry_in}
+use Rattle.lone_server.specs.Appends.{FirstCanJoin}
 use Rattle.lone_server.proofs.JoinSteps.{commits-or, downs, empty-over, first-or, joins-one, lacks-over}
 use Rattle.lone_server.proofs.RoseSteps.{none-left, rose-done, rose-lacks, rose-not, rose-still, rose-told}
 use Rattle.lone_server.proofs.joining.join_journal.Goals as goal
