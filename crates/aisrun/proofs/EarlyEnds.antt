@@ -6,16 +6,16 @@ use Rattle.played_runs.specs.declared.ending.Status8.{Status8}
 use Rattle.played_runs.specs.declared.ending.Status8.TheVariants.{Memory}
 use Rattle.played_runs.proofs.CountSteps.{untouched-on, untouched-stood}
 use Rattle.played_runs.proofs.EndingSteps.{lacked}
-use Rattle.trio_command.specs.Endings.{TrioRun, Unread as Unheard}
-use Rattle.trio_command.proofs.StatusLaws as trio
+use Rattle.trio_runs.specs.Endings.{TrioRun, Unread as Unheard}
+use Rattle.trio_runs.proofs.StatusLaws as trio
 use Rattle.journal_frames.specs.Staging.{HasStaged}
 use Rattle.journal_frames.proofs.Keeping.{keeps-same}
 use Rattle.cold_runs.specs.Recovering.{RecoversBy, RecoversPartly}
 use Rattle.cold_runs.specs.Stages.{ColdStage, LeavesBoth, both_held, both_left}
-use Rattle.cold_command.specs.Endings.{ColdRun, Unread}
-use Rattle.cold_command.specs.Steps.{EndedSo}
-use Rattle.cold_command.proofs.EndSteps.{both-on, both-stood}
-use Rattle.cold_command.proofs.StatusLaws as cold
+use Rattle.cold_runs.specs.Endings.{ColdRun, Unread}
+use Rattle.cold_runs.specs.CommandSteps.{EndedSo}
+use Rattle.cold_runs.proofs.CommandSteps.{both-on, both-stood}
+use Rattle.cold_runs.proofs.StatusLaws as cold
 use Rattle.aisrun.specs.RunSteps.{ColdServed, TrioServed}
 
 -- three servers

@@ -12,11 +12,11 @@ use Rattle.commands.specs.Commands.{command_of}
 use Rattle.command_journal.specs.declared.world.ColdWorld.{ColdWorld}
 use Rattle.cold_runs.specs.Recovering.{RecoversBy}
 use Rattle.cold_runs.specs.Stages.{both_held}
-use Rattle.cold_command.specs.Completing.{Completes as CompletesCold}
-use Rattle.cold_command.specs.Endings.{ColdEndsBy, ColdRun, RisesBy as RisesByCold, cold_run}
+use Rattle.cold_runs.specs.Completing.{Completes as CompletesCold}
+use Rattle.cold_runs.specs.Endings.{ColdEndsBy, ColdRun, RisesBy as RisesByCold, cold_run}
 use Rattle.spare_server.specs.declared.world.TrioWorld.{TrioWorld}
-use Rattle.trio_command.specs.Completing.{CanServe, IsServedOrMemory}
-use Rattle.trio_command.specs.Endings.{TrioEndsBy, TrioRun}
+use Rattle.trio_runs.specs.Completing.{CanServe, IsServedOrMemory}
+use Rattle.trio_runs.specs.Endings.{TrioEndsBy, TrioRun}
 use Rattle.aisrun.specs.Colds.{AsksCold, AsksOther, AsksRecover}
 use Rattle.aisrun.specs.Endings.{Ends, LacksBy}
 use Rattle.aisrun.specs.Trios.{AsksTrio}

@@ -3,7 +3,7 @@ use Rattle.std.specs.Prelude.{◌≡◌, ℕ, List, Option, Some}
 use Rattle.disk_model.specs.Disk.{Files}
 use Rattle.commands.specs.declared.command.Command.TheVariants.{Trio}
 use Rattle.commands.specs.Commands.{command_of}
-use Rattle.trio_command.specs.Completing.{CanServe}
+use Rattle.trio_runs.specs.Completing.{CanServe}
 
 abbrev pub AsksTrio : List (List ℕ) → Type 0
 AsksTrio words = command_of words ≡ Some Trio

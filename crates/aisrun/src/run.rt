@@ -19,24 +19,26 @@ ghost use Rattle.aisrun.specs.RunSteps.{WordsEnd, beside};
 ghost use Rattle.aisrun.specs.Trios.{AsksTrio, CanServeBy};
 ghost use Rattle.cluster_core.specs.Worlds.{empty_world};
 ghost use Rattle.command_journal.specs.Worlds.{both, empty_cold};
-ghost use Rattle.cold_runs.specs.Promises.{DeclinesCold, FallsCold, FindsAll, JournalStands, KeepsRecordsCold, OfAllColdLines, OfLine, OfWorld, SettlesCold, ThroughoutCold};
+ghost use Rattle.cold_runs.specs.AfterFault.{KeepsColdAtFault, TellsColdAtWant};
+ghost use Rattle.cold_runs.specs.Promises.{DeclinesCold, FallsCold, FindsAll, JournalStands, KeepsRecordsCold};
+ghost use Rattle.cold_runs.specs.Promises.{OfAllColdLines, OfLine, OfWorld, SettlesCold, ThroughoutCold};
 ghost use Rattle.cold_runs.specs.Recovering.{RecoversBy};
 ghost use Rattle.cold_runs.specs.Stages.{cold_stage};
-ghost use Rattle.cold_command.specs.Completing.{Completes as CompletesCold};
-ghost use Rattle.cold_command.specs.Endings.{ColdEndsBy, RisesBy as RisesByCold, cold_run};
+ghost use Rattle.cold_runs.specs.Completing.{Completes as CompletesCold};
+ghost use Rattle.cold_runs.specs.Endings.{ColdEndsBy, RisesBy as RisesByCold, cold_run};
 ghost use Rattle.spare_server.specs.Game.{trio_game};
 ghost use Rattle.spare_server.specs.Worlds.{empty_trio};
-ghost use Rattle.trio_command.specs.Completing.{IsServedOrMemory};
-ghost use Rattle.trio_command.specs.Endings.{TrioEndsBy, trio_run};
+ghost use Rattle.trio_runs.specs.Completing.{IsServedOrMemory};
+ghost use Rattle.trio_runs.specs.Endings.{TrioEndsBy, trio_run};
 ghost use Rattle.trio_runs.specs.Counting.{CallsCounted as TrioCallsCounted};
 ghost use Rattle.trio_runs.specs.Falling.{FallsByCause as FallsTrio, FaultsFell as FaultsFellTrio};
-ghost use Rattle.trio_runs.specs.Sentences.{DeclinesRightly as DeclinesTrio, OfAllLines as OfAllTrioLines, OfAllLinesOf as OfAllTrioLinesOf, SettlesAll as SettlesTrio, Throughout as ThroughoutTrio};
+ghost use Rattle.trio_runs.specs.Sentences.{DeclinesRightly as DeclinesTrio, OfAllLines as OfAllTrioLines};
+ghost use Rattle.trio_runs.specs.Sentences.{OfAllLinesOf as OfAllTrioLinesOf, SettlesAll as SettlesTrio, Throughout as ThroughoutTrio};
 
 use crate::ending::usage;
 use callback_dispatch::Gate;
 use cluster_core::World;
-use cold_command::run_cold;
-use cold_runs::{law_of_cold_runs, recover};
+use cold_runs::{law_of_cold_runs, recover, run_cold};
 use command_journal::ColdWorld;
 use commands::{Command, command_of, text_of, wanted_of};
 use disk_model::SharedDisk;
@@ -47,8 +49,7 @@ use std::alloc::Global;
 use std::sync::Wait;
 use std::thread::Threads;
 use text_commands::{check_text, generate, run_check, scan};
-use trio_command::run_trio;
-use trio_runs::law_of_trio_runs;
+use trio_runs::{law_of_trio_runs, run_trio};
 use world_runs::{law_of_runs, load, run_script};
 
 // The command that the words are is done.
@@ -293,12 +294,16 @@ pub fn run<R: Threads + Wait + Sync, S: Source, K: Sink, D: SharedDisk, J: Share
         (D.seen disk.new) world.new }
     ensures trio_fault_keeps { (KeepsTrioAtFault trio_game) (D.seen disk.old).files
         (D.seen disk.new) trio.new }
+    ensures cold_fault_keeps { KeepsColdAtFault (both (D.seen disk.old) (J.seen journal.old))
+        (both (D.seen disk.new) (J.seen journal.new)) cold.new }
 
     // What holds where memory ran out in an event.
     ensures want_tells { TellsAtWant (D.seen disk.old).files
         (D.seen disk.new) world.new }
     ensures trio_want_tells { (TellsTrioAtWant trio_game) (D.seen disk.old).files
         (D.seen disk.new) trio.new }
+    ensures cold_want_tells { TellsColdAtWant (both (D.seen disk.old) (J.seen journal.old))
+        (both (D.seen disk.new) (J.seen journal.new)) cold.new }
 
     // Where nothing fails, a script is played, a script is checked, an expression is taken apart, a script is made, a large run
     // is played, and records are told: only memory may be missing.

@@ -135,7 +135,8 @@ const SCANS: &str = "\
 /// One digit each for the failing call of the source, of the sink and of the disk's reading ones, whether there is a file, and the
 /// exit status; then the word and the text, one row a line. The disk's first changing call fails.
 const REASONS: &str = "\
-    10002|run,run|usage: aisrun run, check, expr KIND TEXT, gen COUNT SEED, load COUNT SEED, cold, recover, scan KIND TEXT SIZE, find KIND TEXT SIZE TOKEN WORD or trio\n;\
+    10002|run,run|usage: aisrun run, check, expr KIND TEXT, gen COUNT SEED, load COUNT SEED, cold, recover, \
+    scan KIND TEXT SIZE, find KIND TEXT SIZE TOKEN WORD or trio\n;\
     10014|run|read fault\n;\
     00017|run|root not empty: x\n;\
     00006|run|disk fault\n;\

@@ -80,7 +80,7 @@ answered-committed past (Waiting entry) range = range
 answered-committed past (Applied entry) range = range.1
 answered-committed past (Ready entry) range = range.1
 
-committed-range : (past : List Entry) (hand : Hand) → AreInRange (accepted_by past hand) → AreInRange (committed_by past hand)
+pub committed-range : (past : List Entry) (hand : Hand) → AreInRange (accepted_by past hand) → AreInRange (committed_by past hand)
 committed-range past Empty range = range
 committed-range past (Waiting entry) range = range.1
 committed-range past (Applied entry) range = range
@@ -191,7 +191,7 @@ commits-in-time held =
 -- Those of a server and its journal.
 
 -- files of a history have its records; behind an attempt at its last entry's deeds those before it are kept
-records-by : (setup : Setup) → CanBegin setup → (up : Bool) (hand : Hand) (world : World) → world.core.hand ≡ hand → IsSound (plain_of setup) world → AreInRange (committed_by world.core.answered hand) → (files : Files) → HoldsFiles up setup world.core.answered hand files → RecordsBy up setup world files
+pub records-by : (setup : Setup) → CanBegin setup → (up : Bool) (hand : Hand) (world : World) → world.core.hand ≡ hand → IsSound (plain_of setup) world → AreInRange (committed_by world.core.answered hand) → (files : Files) → HoldsFiles up setup world.core.answered hand files → RecordsBy up setup world files
 records-by setup can true hand world is sound range files holds =
     records-stay (plain_of setup) service_disk (storage_of setup) (is_storage setup can) world files sound (answered-committed world.core.answered hand range) holds
 records-by setup can false hand world is sound range files holds =
@@ -282,7 +282,7 @@ settles-cold held = throughout held SettlesCold (λ setup places first opened ca
 
 -- A server that came back.
 
-answered-so : (setup : Setup) (world : World) → IsSound (plain_of setup) world → (client number : ℕ) (reply : Reply) → Stands (Answer client number reply) (messages_in world.net) → (call : Call) × Stands (number, call, reply) (dealt_in (plain_of setup) client world.core.answered)
+pub answered-so : (setup : Setup) (world : World) → IsSound (plain_of setup) world → (client number : ℕ) (reply : Reply) → Stands (Answer client number reply) (messages_in world.net) → (call : Call) × Stands (number, call, reply) (dealt_in (plain_of setup) client world.core.answered)
 answered-so setup world sound client number reply posted =
     answers-dealt (plain_of setup) client number reply world.core.answered (All-at (IsOfRun (plain_of setup) world.core.answered) (Answer client number reply) (messages_in world.net) sound.facts.run posted)
 

@@ -118,7 +118,7 @@ FindsAllBy up next setup before state outcome = Unit {0}
 abbrev pub FindsAll : Setup → ColdLineSentence
 FindsAll setup before next told state outcome after = FindsAllBy state.peers.up next setup before state outcome
 
--- the server goes down only by `crash`, and where a disk that was armed stopped
+-- the server goes down only by `crash`, or in a line that begins with a disk armed
 abbrev pub FallsCold : Setup → ColdLineSentence
 FallsCold setup before next told state outcome after =
     is_crash next ≡ false → state.peers.up ≡ true → state.peers.armed ≡ None → state.peers.beside ≡ None → outcome.state.peers.up ≡ true

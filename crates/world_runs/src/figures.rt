@@ -141,7 +141,7 @@ fn halt_of(answer: DiskAnswer) -> Halt
 }
 
 /// The number of a disk's files and the sum of their lengths.
-#[derive(Clone, Copy, Debug, PartialEq, Eq)]
+#[derive(Clone, Copy)]
 pub struct Held {
     files: u64,
     bytes: u64,

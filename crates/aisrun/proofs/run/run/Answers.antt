@@ -2,6 +2,7 @@ use Rattle.std.proofs.Common.{ℕ, List, ap, map}
 use Rattle.std.specs.Prelude.{string_bytes}
 use Rattle.commands.specs.declared.command.Command.TheVariants.{Run, Check, Expr, Gen, Load, Scan}
 use Rattle.commands.specs.Commands.{command_of}
+use Rattle.command_journal.specs.Worlds.{both}
 use Rattle.aisrun.specs.Colds.{AsksOther}
 use Rattle.aisrun.proofs.Asking.{others}
 use Rattle.aisrun.proofs.CompletenessLaws.{completes, checks, exprs, scans}
@@ -180,6 +181,11 @@ pub returns-clause-trio_fault_keeps : goal.returns-clause-trio_fault_keeps
 returns-clause-trio_fault_keeps g c =
     c.law_of_trio_runs.ensures.fault_keeps (g.D.SharedDisk.seen c.args.disk.now).files (g.D.SharedDisk.seen c.run_words.new.disk) c.run_words.new.trio
 
+pub returns-clause-cold_fault_keeps : goal.returns-clause-cold_fault_keeps
+returns-clause-cold_fault_keeps g c =
+    c.law_of_cold_runs.ensures.fault_keeps (both (g.D.SharedDisk.seen c.args.disk.now) (g.J.SharedDisk.seen c.args.journal.now))
+    (both (g.D.SharedDisk.seen c.run_words.new.disk) (g.J.SharedDisk.seen c.run_words.new.journal)) c.run_words.new.cold
+
 pub returns-clause-want_tells : goal.returns-clause-want_tells
 returns-clause-want_tells g c =
     c.law_of_runs.ensures.want_tells (g.D.SharedDisk.seen c.args.disk.now).files (g.D.SharedDisk.seen c.run_words.new.disk) c.run_words.new.world
@@ -187,6 +193,11 @@ returns-clause-want_tells g c =
 pub returns-clause-trio_want_tells : goal.returns-clause-trio_want_tells
 returns-clause-trio_want_tells g c =
     c.law_of_trio_runs.ensures.want_tells (g.D.SharedDisk.seen c.args.disk.now).files (g.D.SharedDisk.seen c.run_words.new.disk) c.run_words.new.trio
+
+pub returns-clause-cold_want_tells : goal.returns-clause-cold_want_tells
+returns-clause-cold_want_tells g c =
+    c.law_of_cold_runs.ensures.want_tells (both (g.D.SharedDisk.seen c.args.disk.now) (g.J.SharedDisk.seen c.args.journal.now))
+    (both (g.D.SharedDisk.seen c.run_words.new.disk) (g.J.SharedDisk.seen c.run_words.new.journal)) c.run_words.new.cold
 
 pub returns-clause-completes : goal.returns-clause-completes
 returns-clause-completes g c can none =
