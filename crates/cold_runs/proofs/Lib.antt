@@ -6,3 +6,7 @@ pub mod NameSteps
 pub mod RunLaws
 pub mod RecoverSteps
 pub mod ScriptSteps
+pub mod CommandSteps
+pub mod StatusLaws
+pub mod FindLaws
+pub mod FaultLaws

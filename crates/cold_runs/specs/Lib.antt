@@ -4,3 +4,7 @@ pub mod Promises
 pub mod Ends
 pub mod Recovering
 pub mod Steps
+pub mod Endings
+pub mod Completing
+pub mod CommandSteps
+pub mod AfterFault

@@ -2,9 +2,12 @@
 ghost use Rattle.played_runs.specs.Promises.{CallsBack, CommitsInTime, KeepsOneHistory, PrintsPosts, ReadsRightly, RepliesRightly, StandsOnce};
 ghost use Rattle.played_runs.specs.Telling.{TellsOnce};
 ghost use Rattle.cold_servers.specs.ColdSeen.{ColdSeen};
+ghost use Rattle.command_journal.specs.declared.world.ColdWorld.{ColdWorld};
+ghost use Rattle.cold_runs.specs.AfterFault.{KeepsColdAtFault, TellsColdAtWant};
 ghost use Rattle.cold_runs.specs.Promises.{DeclinesCold, FallsCold, FindsAll, JournalStands, KeepsRecordsCold, OfAllColdLines, OfLine, OfWorld, SettlesCold, ThroughoutCold};
 
-/// What holds at the end of every line that was played over two disks of which this was seen before.
+/// What holds at the end of every line that was played over two disks of which this was seen before; and what stands where a
+/// disk's fault ended the line behind one, and where memory ran out in it.
 pub fn law_of_cold_runs()
     ensures one_history { (held : ColdSeen) → ThroughoutCold held (OfWorld KeepsOneHistory) }
     ensures finds { (held : ColdSeen) → OfAllColdLines held FindsAll }
@@ -20,4 +23,8 @@ pub fn law_of_cold_runs()
     ensures stays { (held : ColdSeen) → ThroughoutCold held KeepsRecordsCold }
     ensures stands { (held : ColdSeen) → ThroughoutCold held JournalStands }
     ensures settles { (held : ColdSeen) → ThroughoutCold held SettlesCold }
+    ensures fault_keeps { (held left : ColdSeen) (world : ColdWorld)
+        → KeepsColdAtFault held left world }
+    ensures want_tells { (held left : ColdSeen) (world : ColdWorld)
+        → TellsColdAtWant held left world }
 {}

@@ -1,2 +1,4 @@
 mod FallLaws
 mod ScriptSteps
+pub mod CommandSteps
+pub mod StatusLaws

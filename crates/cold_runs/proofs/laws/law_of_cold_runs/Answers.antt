@@ -1,3 +1,4 @@
+use Rattle.cold_runs.proofs.FaultLaws.{keeps-cold-at-fault, tells-cold-at-want}
 use Rattle.cold_runs.proofs.RunLaws.{calls-back, commits-in-time, declines-rightly, falls-cold, finds-all, journal-stands, keeps-one-history, keeps-records, prints-posts, reads-rightly, replies-rightly, settles-cold, stands-once, tells-once}
 use Rattle.cold_runs.proofs.laws.law_of_cold_runs.Goals as goal
 
@@ -42,3 +43,9 @@ returns-clause-stands c held = journal-stands held
 
 pub returns-clause-settles : goal.returns-clause-settles
 returns-clause-settles c held = settles-cold held
+
+pub returns-clause-fault_keeps : goal.returns-clause-fault_keeps
+returns-clause-fault_keeps c held left world = keeps-cold-at-fault held left world
+
+pub returns-clause-want_tells : goal.returns-clause-want_tells
+returns-clause-want_tells c held left world = tells-cold-at-want held left world

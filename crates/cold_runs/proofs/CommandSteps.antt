@@ -21,9 +21,9 @@ use Rattle.script_inputs.specs.Inputs.{input_limit, ReadsWhole}
 use Rattle.script_inputs.specs.Unread.{UnreadEnds, UnreadLacks}
 use Rattle.cold_runs.specs.Ends.{ColdEnds, RisesCold}
 use Rattle.cold_runs.specs.Stages.{BothGoneOn, BothStood, ColdStage, LeavesBoth, journal_faults, record_faults}
-use Rattle.cold_command.specs.Endings.{ColdRun, ColdRunEnds, ColdRunLacks, RisesBefore, Unplayed}
-use Rattle.cold_command.specs.Endings.ColdRunLacks.{Unread as Unknown}
-use Rattle.cold_command.specs.Steps.{BytesEnd, BytesLack, EndedSo}
+use Rattle.cold_runs.specs.Endings.{ColdRun, ColdRunEnds, ColdRunLacks, RisesBefore, Unplayed}
+use Rattle.cold_runs.specs.Endings.ColdRunLacks.{Unread as Unknown}
+use Rattle.cold_runs.specs.CommandSteps.{BytesEnd, BytesLack, EndedSo}
 
 -- disks that were not asked for anything
 pub both-stood : {K : Type 0} (stage : ColdStage K) → LeavesBoth stage → BothStood stage.scene

@@ -9,9 +9,9 @@ use Rattle.played_runs.specs.Ends.{PlayEnds}
 use Rattle.script_inputs.specs.Inputs.{ReadsWhole}
 use Rattle.spare_server.specs.declared.world.TrioWorld.{TrioWorld}
 use Rattle.spare_server.specs.Game.{trio_game}
-use Rattle.trio_command.specs.Endings.{TrioEnds, TrioLacks, TrioRun, Unplayed}
-use Rattle.trio_command.specs.Endings.TrioLacks.{Unread as Unknown}
-use Rattle.trio_command.specs.Steps.{BytesEnd, BytesLack, InputEnds, InputLacks}
+use Rattle.trio_runs.specs.Endings.{TrioEnds, TrioLacks, TrioRun, Unplayed}
+use Rattle.trio_runs.specs.Endings.TrioLacks.{Unread as Unknown}
+use Rattle.trio_runs.specs.CommandSteps.{BytesEnd, BytesLack, InputEnds, InputLacks}
 
 pub play-bytes : {K D : Type 0} (scene : Stage TrioWorld K D) (bytes : List ℕ) (lines : List TrioLine) → IsTrioOf lines bytes → (reached : Option Status8) (text : List ℕ) → PlayEnds trio_game lines scene reached text → BytesEnd bytes scene reached text
 play-bytes scene bytes lines script None text ends = (lines, script, ends)

@@ -6,12 +6,12 @@ ghost use Rattle.played_runs.specs.declared.ending.Status8.{Status8};
 ghost use Rattle.command_journal.specs.Worlds.{empty_cold};
 ghost use Rattle.cold_runs.specs.Ends.{RisesCold};
 ghost use Rattle.cold_runs.specs.Stages.{BothGoneOn, cold_stage};
-ghost use Rattle.cold_command.specs.Completing.{Completes};
-ghost use Rattle.cold_command.specs.Endings.{ColdEndsBy, RisesBy, cold_run};
-ghost use Rattle.cold_command.specs.Steps.{BytesEnd, BytesLack, EndedSo};
+ghost use Rattle.cold_runs.specs.Completing.{Completes};
+ghost use Rattle.cold_runs.specs.Endings.{ColdEndsBy, RisesBy, cold_run};
+ghost use Rattle.cold_runs.specs.CommandSteps.{BytesEnd, BytesLack, EndedSo};
 
+use crate::playing::play_cold;
 use callback_dispatch::Gate;
-use cold_runs::play_cold;
 use command_journal::ColdWorld;
 use disk_model::SharedDisk;
 use io_edge::{Sink, Source, read_all};

@@ -11,8 +11,8 @@ use Rattle.played_runs.specs.Counts.{HasRisen, HasStood, RisesBefore, RisesBy}
 use Rattle.played_runs.specs.Edges.{before, after, fault_count}
 use Rattle.played_runs.specs.Writing.{Ended, Whole, SinkFailed, SinkLacked, Lacked}
 use Rattle.script_inputs.proofs.Reading.{no-name, not-too-long, read-all}
-use Rattle.trio_command.specs.Completing.{CanServe, IsServedOrMemory}
-use Rattle.trio_command.specs.Endings.{Lacking, TrioEnds, TrioEndsBy, TrioLacks, TrioRun, Unwritten}
+use Rattle.trio_runs.specs.Completing.{CanServe, IsServedOrMemory}
+use Rattle.trio_runs.specs.Endings.{Lacking, TrioEnds, TrioEndsBy, TrioLacks, TrioRun, Unwritten}
 
 module _ {S K D : Type 0} (run : TrioRun S K D) where
   abbrev pub EndedSo : Status8 → Type 0

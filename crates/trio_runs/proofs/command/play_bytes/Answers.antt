@@ -8,10 +8,10 @@ use Rattle.played_runs.proofs.WritingSteps.{ended-as, written-as}
 use Rattle.played_runs.specs.Ends.{PlayEnds, PlayLacks}
 use Rattle.script_inputs.specs.Inputs.{bad_line}
 use Rattle.spare_server.specs.Game.{trio_game}
-use Rattle.trio_command.specs.Endings.{TrioFails}
-use Rattle.trio_command.specs.Steps.{BytesEnd, BytesLack}
-use Rattle.trio_command.proofs.EndSteps.{play-bytes}
-use Rattle.trio_command.proofs.playing.play_bytes.Goals as goal
+use Rattle.trio_runs.specs.Endings.{TrioFails}
+use Rattle.trio_runs.specs.CommandSteps.{BytesEnd, BytesLack}
+use Rattle.trio_runs.proofs.CommandSteps.{play-bytes}
+use Rattle.trio_runs.proofs.command.play_bytes.Goals as goal
 
 pub play_trio-requires-clause-script : goal.play_trio-requires-clause-script
 play_trio-requires-clause-script g c κs within = c.law_of_trio_scripts.ensures c.in-Ok.lines c.args.bytes.now c.in-Ok.ensures.lines

@@ -16,9 +16,9 @@ use Rattle.played_runs.specs.Writing.{Whole, SinkFailed, SinkLacked, Lacked}
 use Rattle.script_inputs.proofs.Reading.{no-name, not-too-long, read-all}
 use Rattle.cold_runs.specs.Ends.{ColdEnds, OfJournal, OfRecords, RootsHold}
 use Rattle.cold_runs.specs.Stages.{ColdScene, OneRisen, both_held, both_left}
-use Rattle.cold_command.specs.Completing.{CanStart, IsStartedOrMemory, NoneRises}
-use Rattle.cold_command.specs.Endings.{ColdEndsBy, ColdRun, ColdRunEnds, Lacking, RisesBefore, RisesBy, Unwritten}
-use Rattle.cold_command.specs.Steps.{EndedSo}
+use Rattle.cold_runs.specs.Completing.{CanStart, IsStartedOrMemory, NoneRises}
+use Rattle.cold_runs.specs.Endings.{ColdEndsBy, ColdRun, ColdRunEnds, Lacking, RisesBefore, RisesBy, Unwritten}
+use Rattle.cold_runs.specs.CommandSteps.{EndedSo}
 
 -- a disk that tells its files is not silent
 told-loud : (held : Option Files) → IsSome held → held ≡ None → ⊥

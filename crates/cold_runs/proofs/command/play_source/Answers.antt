@@ -6,10 +6,10 @@ use Rattle.played_runs.proofs.WritingSteps.{written-as}
 use Rattle.script_inputs.specs.Inputs.{input_limit, ReadsWhole}
 use Rattle.cold_runs.specs.Ends.{RisesCold}
 use Rattle.cold_runs.specs.Stages.{BothGoneOn, LeavesBoth}
-use Rattle.cold_command.specs.Endings.{ColdRunEnds, ColdRunLacks, RisesBefore, cold_run}
-use Rattle.cold_command.specs.Steps.{BytesEnd, BytesLack}
-use Rattle.cold_command.proofs.EndSteps.{bytes-ends, bytes-lacks, unread-ended}
-use Rattle.cold_command.proofs.playing.play_source.Goals as goal
+use Rattle.cold_runs.specs.Endings.{ColdRunEnds, ColdRunLacks, RisesBefore, cold_run}
+use Rattle.cold_runs.specs.CommandSteps.{BytesEnd, BytesLack}
+use Rattle.cold_runs.proofs.CommandSteps.{bytes-ends, bytes-lacks, unread-ended}
+use Rattle.cold_runs.proofs.command.play_source.Goals as goal
 
 pub play_bytes-requires-clause-short : goal.play_bytes-requires-clause-short
 play_bytes-requires-clause-short g c κs within = omega (arith, ap length c.as_slice.ensures.value, c.in-Ok.ensures.bytes.bound)

@@ -1,10 +1,10 @@
 use Rattle.played_runs.specs.Edges.{edge, fault_count}
 use Rattle.played_runs.proofs.WritingSteps.{ended-as}
-use Rattle.trio_command.specs.Endings.{TrioEnds, TrioLacks, trio_run}
-use Rattle.trio_command.specs.Steps.{InputEnds, InputLacks}
-use Rattle.trio_command.proofs.EndSteps.{input-ends, input-lacks}
-use Rattle.trio_command.proofs.StatusLaws.{completes, ends-by, rises-by}
-use Rattle.trio_command.proofs.playing.run_trio.Goals as goal
+use Rattle.trio_runs.specs.Endings.{TrioEnds, TrioLacks, trio_run}
+use Rattle.trio_runs.specs.CommandSteps.{InputEnds, InputLacks}
+use Rattle.trio_runs.proofs.CommandSteps.{input-ends, input-lacks}
+use Rattle.trio_runs.proofs.StatusLaws.{completes, ends-by, rises-by}
+use Rattle.trio_runs.proofs.command.run_trio.Goals as goal
 
 pub returns-clause-ends : goal.returns-clause-ends
 returns-clause-ends g c =

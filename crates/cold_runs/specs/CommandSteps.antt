@@ -11,7 +11,7 @@ use Rattle.played_runs.specs.declared.ending.Status8.TheVariants.{ScriptRefused}
 use Rattle.script_inputs.specs.Inputs.{bad_line}
 use Rattle.cold_runs.specs.Ends.{ColdEnds, ColdLacks}
 use Rattle.cold_runs.specs.Stages.{BothGoneOn, ColdStage, LeavesBoth}
-use Rattle.cold_command.specs.Endings.{ColdRun, ColdRunEnds, ColdRunLacks, RisesBefore}
+use Rattle.cold_runs.specs.Endings.{ColdRun, ColdRunEnds, ColdRunLacks, RisesBefore}
 
 -- the bytes are no script
 pub record FailsCold (bytes text : List ℕ) : Type 0 where

@@ -8,9 +8,9 @@ use Rattle.script_inputs.specs.Inputs.{bad_line}
 use Rattle.cold_runs.specs.Ends.{ColdEnds, ColdLacks, RisesCold}
 use Rattle.cold_runs.specs.Stages.{BothGoneOn, LeavesBoth, cold_stage}
 use Rattle.cold_runs.proofs.ScriptSteps.{can-play}
-use Rattle.cold_command.specs.Steps.{BytesEnd, BytesLack, FailsCold}
-use Rattle.cold_command.proofs.EndSteps.{both-on, play-bytes}
-use Rattle.cold_command.proofs.playing.play_bytes.Goals as goal
+use Rattle.cold_runs.specs.CommandSteps.{BytesEnd, BytesLack, FailsCold}
+use Rattle.cold_runs.proofs.CommandSteps.{both-on, play-bytes}
+use Rattle.cold_runs.proofs.command.play_bytes.Goals as goal
 
 pub play_cold-requires-clause-script : goal.play_cold-requires-clause-script
 play_cold-requires-clause-script g c κs within = can-play c.in-Ok.lines c.args.bytes.now c.in-Ok.ensures.lines

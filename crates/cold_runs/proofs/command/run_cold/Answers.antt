@@ -1,7 +1,7 @@
 use Rattle.played_runs.specs.Edges.{edge}
-use Rattle.cold_command.specs.Endings.{cold_run}
-use Rattle.cold_command.proofs.StatusLaws.{accepts, completes, ends-by, rises-by}
-use Rattle.cold_command.proofs.playing.run_cold.Goals as goal
+use Rattle.cold_runs.specs.Endings.{cold_run}
+use Rattle.cold_runs.proofs.StatusLaws.{accepts, completes, ends-by, rises-by}
+use Rattle.cold_runs.proofs.command.run_cold.Goals as goal
 
 pub returns-clause-ends : goal.returns-clause-ends
 returns-clause-ends g c =

@@ -3,9 +3,9 @@ use Rattle.played_runs.specs.Edges.{edge, fault_count, stage}
 use Rattle.played_runs.proofs.WritingSteps.{ended-read}
 use Rattle.script_inputs.specs.Inputs.{input_limit, ReadsWhole}
 use Rattle.script_inputs.proofs.Reading.{unread-written}
-use Rattle.trio_command.specs.Steps.{BytesEnd, BytesLack, InputEnds, InputLacks}
-use Rattle.trio_command.proofs.EndSteps.{bytes-input}
-use Rattle.trio_command.proofs.playing.play_source.Goals as goal
+use Rattle.trio_runs.specs.CommandSteps.{BytesEnd, BytesLack, InputEnds, InputLacks}
+use Rattle.trio_runs.proofs.CommandSteps.{bytes-input}
+use Rattle.trio_runs.proofs.command.play_source.Goals as goal
 
 pub play_bytes-requires-clause-short : goal.play_bytes-requires-clause-short
 play_bytes-requires-clause-short g c κs within = omega (arith, ap length c.as_slice.ensures.value, c.in-Ok.ensures.bytes.bound)

@@ -4,10 +4,12 @@ ghost use Rattle.played_runs.specs.Counts.{NoneRises, RisesBy};
 ghost use Rattle.played_runs.specs.Edges.{edge, fault_count, stage};
 ghost use Rattle.played_runs.specs.Writing.{Ended, unasked};
 ghost use Rattle.spare_server.specs.Worlds.{empty_trio};
-ghost use Rattle.trio_command.specs.Completing.{CanServe, IsServedOrMemory};
-ghost use Rattle.trio_command.specs.Endings.{TrioEndsBy, trio_run};
-ghost use Rattle.trio_command.specs.Steps.{BytesEnd, BytesLack, InputEnds, InputLacks};
+ghost use Rattle.trio_runs.specs.Completing.{CanServe, IsServedOrMemory};
+ghost use Rattle.trio_runs.specs.Endings.{TrioEndsBy, trio_run};
+ghost use Rattle.trio_runs.specs.CommandSteps.{BytesEnd, BytesLack, InputEnds, InputLacks};
 
+use crate::laws::law_of_trio_scripts;
+use crate::playing::play_trio;
 use callback_dispatch::Gate;
 use disk_model::SharedDisk;
 use io_edge::{Sink, Source, read_all};
@@ -19,7 +21,6 @@ use std::alloc::Global;
 use std::sync::Wait;
 use std::thread::Threads;
 use trio_lines::parse_trio;
-use trio_runs::{law_of_trio_scripts, play_trio};
 
 // Plays the script that these bytes are.
 fn play_bytes<R: Threads + Wait + Sync, K: Sink, D: SharedDisk, G: Gate>(

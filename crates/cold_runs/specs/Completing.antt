@@ -8,7 +8,7 @@ use Rattle.played_runs.specs.Edges.{before, fault_count}
 use Rattle.played_runs.specs.declared.ending.Status8.{Status8}
 use Rattle.played_runs.specs.declared.ending.Status8.TheVariants.{Done, Memory}
 use Rattle.cold_runs.specs.Stages.{both_held, journal_faults, record_faults}
-use Rattle.cold_command.specs.Endings.{ColdRun}
+use Rattle.cold_runs.specs.Endings.{ColdRun}
 
 -- a source that has a script to give, which is not longer than 16 MiB, and two disks without files
 pub record CanStart (left : Option (List ℕ)) (held beside : Option Files) : Type 0 where

@@ -9,7 +9,7 @@ use Rattle.played_runs.specs.Writing.{Reaching}
 use Rattle.script_inputs.specs.Inputs.{ReadsWhole, SourceFailed, InputTooLong}
 use Rattle.spare_server.specs.declared.world.TrioWorld.{TrioWorld}
 use Rattle.spare_server.specs.Game.{trio_game}
-use Rattle.trio_command.specs.Endings.{TrioFails}
+use Rattle.trio_runs.specs.Endings.{TrioFails}
 
 -- how the bytes of an input end on a stage
 abbrev pub BytesEnd : {K D : Type 0} → List ℕ → Stage TrioWorld K D → Reaching

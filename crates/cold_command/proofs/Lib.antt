@@ -1,2 +1,0 @@
-pub mod EndSteps
-pub mod StatusLaws
