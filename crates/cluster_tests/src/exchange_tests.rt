@@ -6,7 +6,7 @@ ghost use Rattle.mirror.specs.Pairing.{Admits};
 
 use crate::mirror_tests::{START, new_disk, service};
 use ais_values::{ClassId, Name, Text};
-use calls::Call;
+use calls::{Call, Shared};
 use disk_model::{MemDisk, SharedDisk};
 use mirror::{Heard, Node, Role, let_heard_go, let_node_go};
 use record_print::Header;
@@ -60,6 +60,7 @@ fn goes(
     requires { 0 < seq }
 {
     assert!(rt; active.has_room());
+    let call = Shared::new(alloc, call).expect(rt, "memory");
     let message = Message::Request {
         client: 1,
         seq,

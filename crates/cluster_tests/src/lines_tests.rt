@@ -18,7 +18,7 @@ use disk_model::{NoDisk, SharedDisk};
 use group_servers::{Group, Seat, let_seat_go};
 use message_net::Net;
 use mirror::{Node, Role, let_node_go};
-use script_lines::{Line, Server};
+use script_lines::{Line, Server, let_line_go};
 use service_core::Service;
 use std::alloc::{AllocError, Global};
 use std::process::Abort;
@@ -128,7 +128,7 @@ pub(crate) fn plays_by<R: Abort + Threads + Wait + Sync, D: SharedDisk, G: Gate>
         &mut beside,
         gate,
     );
-    drop(line);
+    let_line_go(line);
     done.expect(rt, "a disk that serves");
     assert_eq!(rt; lines.as_slice().len(), count);
     drop(lines);

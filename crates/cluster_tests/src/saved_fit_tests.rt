@@ -4,7 +4,7 @@ mod building;
 mod plan;
 
 use building::built;
-use calls::Saved;
+use calls::{Boxed, Saved};
 use mirror::{Node, Role, let_node_go};
 use plan::{
     ALARMS, ALARMS_BY_SOURCE, EMPTY, NONE, OBJECTS_BY_CAUSE, OBJECTS_TOO, Plan, StreamPlan, alarm,
@@ -37,7 +37,8 @@ fn is_plan_fit(rt: &impl Abort, alloc: Global, plan: &Plan) -> bool {
     let value = built(rt, alloc, plan);
     let fit = is_fit(&value);
     assert!(rt; is_restored(alloc, &value) == fit);
-    let_message_go(Some(Message::Snapshot { saved: value }));
+    let saved = Boxed::new(alloc, value).expect(rt, "memory");
+    let_message_go(Some(Message::Snapshot { saved }));
     fit
 }
 
@@ -361,7 +362,8 @@ fn takes(rt: &impl Abort, alloc: Global, plan: &Plan, client: u16, key: u32, thr
         }
         Err(_) => false,
     };
-    let_message_go(Some(Message::Snapshot { saved: value }));
+    let saved = Boxed::new(alloc, value).expect(rt, "memory");
+    let_message_go(Some(Message::Snapshot { saved }));
     new
 }
 

@@ -2,7 +2,7 @@
 ghost use Rattle.std.specs.Prelude.{◌≡◌, None};
 
 use callback_dispatch::OpenGate;
-use cold_command::run_cold;
+use cold_runs::run_cold;
 use command_journal::ColdWorld;
 use disk_model::{MemDisk, SharedDisk};
 use io_edge::{MemSink, MemSource};

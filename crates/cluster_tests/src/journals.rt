@@ -3,7 +3,7 @@ ghost use Rattle.std.specs.Prelude.{◌≡◌, ◌≢◌, ◌≤◌};
 ghost use Rattle.wire.specs.MessageSpelling.{MessageInRange};
 
 use ais_values::{Name, Seq, StreamKind, Text};
-use calls::{Call, Entry, Saved, SavedStream, let_entries_go};
+use calls::{Boxed, Call, Entry, Saved, SavedStream, Shared, let_entries_go};
 use disk_model::{MemDisk, SharedDisk};
 use journal_start::{Cold, ColdAnswer, Journal, cold_start};
 use mirror::{Role, let_node_go};
@@ -94,11 +94,12 @@ pub fn snapshot(rt: &impl Abort, alloc: Global) -> Message
         subs: Seq::new(alloc),
         readers: Seq::new(alloc),
     };
+    let saved = Boxed::new(alloc, saved).expect(rt, "memory");
     Message::Snapshot { saved }
 }
 
 /// The message with client 1's call of this number, which is the entry of the same number.
-fn entry(seq: u32, call: Call) -> Message
+fn entry(rt: &impl Abort, alloc: Global, seq: u32, call: Call) -> Message
     requires { 1 ≤ seq }
     ensures { MessageInRange result }
 {
@@ -108,15 +109,15 @@ fn entry(seq: u32, call: Call) -> Message
             client: 1,
             seq,
             time: MOMENT,
-            call,
+            call: Shared::new(alloc, call).expect(rt, "memory"),
         },
     }
 }
 
-pub fn first() -> Message
+pub fn first(rt: &impl Abort, alloc: Global) -> Message
     ensures { MessageInRange result }
 {
-    entry(1, Call::LogInit)
+    entry(rt, alloc, 1, Call::LogInit)
 }
 
 pub fn second(rt: &impl Abort, alloc: Global) -> Message
@@ -136,7 +137,7 @@ pub fn second(rt: &impl Abort, alloc: Global) -> Message
         expr: Text::new(alloc, b"@Cb").expect(rt, "a text"),
     };
     let create = Some(attrs);
-    entry(2, Call::LogOpen { stream, create })
+    entry(rt, alloc, 2, Call::LogOpen { stream, create })
 }
 
 /// A disk whose torn ranges hold these bytes.

@@ -1,5 +1,5 @@
 //! Scripts for three servers with what they print, takeovers that fail, and a world that is taken apart.
-use crate::rows::{ARMED, PLAYED, STOPPED};
+use crate::trio_rows::{ARMED, PLAYED, STOPPED};
 use callback_dispatch::OpenGate;
 use disk_model::{MemDisk, SharedDisk};
 use io_edge::MemSink;

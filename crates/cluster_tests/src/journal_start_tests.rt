@@ -44,7 +44,7 @@ fn appends(
 /// Makes a journal of two entries, which has their frames.
 fn writes(rt: &impl Abort, alloc: Global, disk: &mut MemDisk) -> Journal {
     let journal = makes(rt, alloc, disk);
-    let journal = appends(rt, alloc, disk, journal, first(), Ok(()));
+    let journal = appends(rt, alloc, disk, journal, first(rt, alloc), Ok(()));
     let journal = appends(rt, alloc, disk, journal, second(rt, alloc), Ok(()));
     let bytes = bytes_of(rt, alloc, disk, NAME);
     let want = behind_value(rt, alloc, &[&FIRST, &SECOND, b"\x00"]);
@@ -75,7 +75,7 @@ fn a_server_starts_from_a_journal(rt: HostRuntime) {
 fn finds(rt: &impl Abort, alloc: Global, torn: &[u8], number: u64) -> usize {
     let mut held = new_disk(rt, alloc, torn);
     let journal = makes(rt, alloc, &mut held);
-    let journal = appends(rt, alloc, &mut held, journal, first(), Ok(()));
+    let journal = appends(rt, alloc, &mut held, journal, first(rt, alloc), Ok(()));
     held.arm(number.max(1));
     let want = if number > 4 {
         Ok(())
@@ -148,7 +148,7 @@ fn admits(rt: &impl Abort, alloc: Global, node: &Node, message: Message) -> bool
 fn standby(rt: &impl Abort, alloc: Global) -> Option<Node> {
     let message = snapshot(rt, alloc);
     let restored = match &message {
-        Message::Snapshot { saved } => match Service::restore(alloc, saved) {
+        Message::Snapshot { saved } => match Service::restore(alloc, saved.get()) {
             Ok(service) => Some(Node::start(alloc, Role::Standby, service)),
             Err(_) => None,
         },
@@ -163,12 +163,12 @@ fn a_server_can_follow_the_value_and_then_the_next_entry(rt: HostRuntime) {
     let alloc = rt.alloc();
     let node = Node::joining(alloc);
     let value = admits(&rt, alloc, &node, snapshot(&rt, alloc));
-    let entry = admits(&rt, alloc, &node, first());
+    let entry = admits(&rt, alloc, &node, first(&rt, alloc));
     let_node_go(node);
     assert!(rt; value && !entry);
     let node = standby(&rt, alloc).expect(&rt, "a fit value");
     let value = admits(&rt, alloc, &node, snapshot(&rt, alloc));
-    let next = admits(&rt, alloc, &node, first());
+    let next = admits(&rt, alloc, &node, first(&rt, alloc));
     let later = admits(&rt, alloc, &node, second(&rt, alloc));
     let_node_go(node);
     assert!(rt; !value && next && !later);

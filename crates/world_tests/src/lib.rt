@@ -1,4 +1,4 @@
-//! Tests of one server and its journal over two disks.
+//! Tests of three servers over a disk in memory, and of one server and its journal over two.
 #![tactic(auto)]
 
 #[cfg(test)]
@@ -13,3 +13,7 @@ mod silent;
 mod silent_tests;
 #[cfg(test)]
 mod stop_tests;
+#[cfg(test)]
+mod trio_rows;
+#[cfg(test)]
+mod trio_tests;
