@@ -4,7 +4,7 @@ ghost use Rattle.std.specs.Prelude.{IfOk};
 ghost use Rattle.wire.specs.MessageSpelling.{MessageInRange};
 
 use ais_values::{ClassId, Name, Seq, Text};
-use calls::{Boxed, Call, Reply};
+use calls::{Boxed, Call, Reply, Shared};
 use ntf_types::{Body, Notification};
 use record_print::Header;
 use std::alloc::{AllocError, Global};
@@ -73,7 +73,7 @@ fn message_of(alloc: Global, number: u32) -> Result<Message, AllocError>
     let seq = number % 1_000_000 + 1;
     match number % 3 {
         0 => {
-            let call = write_of(alloc, number)?;
+            let call = Shared::new(alloc, write_of(alloc, number)?)?;
             Ok(Message::Request { client, seq, call })
         }
         1 => {

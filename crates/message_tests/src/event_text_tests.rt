@@ -1,6 +1,6 @@
 //! The lines of events, against the written rules.
 use ais_values::{ClassId, Name, Seq, Status, Text};
-use calls::{Boxed, Call, Callback, Entry, Reply, let_entry_go};
+use calls::{Boxed, Call, Callback, Entry, Reply, Shared, let_entry_go};
 use cluster_events::{Roles, ServerRole, Standing, Why};
 use event_text::{
     put_callback, put_declined, put_dispatched, put_entry, put_file, put_ignored, put_post,
@@ -84,11 +84,11 @@ fn hand_out(rt: &impl Abort, alloc: Global, number: u64, callback: Callback, wan
 }
 
 /// Call 3 of client 1.
-fn request() -> Message {
+fn request(rt: &impl Abort, alloc: Global) -> Message {
     Message::Request {
         client: 1,
         seq: 3,
-        call: Call::LogInit,
+        call: Shared::new(alloc, Call::LogInit).expect(rt, "memory"),
     }
 }
 
@@ -127,7 +127,7 @@ fn receipt() -> Message {
 #[test]
 fn tells_of_the_net(rt: HostRuntime) {
     let alloc = rt.alloc();
-    post(&rt, alloc, 5, request(), b"post 5 req 1 3\n");
+    post(&rt, alloc, 5, request(&rt, alloc), b"post 5 req 1 3\n");
     post(&rt, alloc, 6, reply(), b"post 6 rep 1 3\n");
     post(&rt, alloc, 21, item(&rt, alloc), b"post 21 item 1 2 3\n");
     post(&rt, alloc, 22, receipt(), b"post 22 rcpt 1 2 3\n");
@@ -160,12 +160,12 @@ fn tells_of_bytes_that_are_no_message(rt: HostRuntime) {
 }
 
 /// Call 3 of client 1, as accepted.
-fn called() -> Entry {
+fn called(rt: &impl Abort, alloc: Global) -> Entry {
     Entry::Called {
         client: 1,
         seq: 3,
         time: T,
-        call: Call::LogFini,
+        call: Shared::new(alloc, Call::LogFini).expect(rt, "memory"),
     }
 }
 
@@ -183,7 +183,7 @@ fn receipted() -> Entry {
 fn tells_of_the_history(rt: HostRuntime) {
     let alloc = rt.alloc();
     let call = b"acc 3 call 1 3 1704067200000000000\n".as_slice();
-    accept(&rt, alloc, 3, called(), call);
+    accept(&rt, alloc, 3, called(&rt, alloc), call);
     let receipt = b"acc 9 rcpt 1 2 2 1704067200000000000\n".as_slice();
     accept(&rt, alloc, 9, receipted(), receipt);
 }

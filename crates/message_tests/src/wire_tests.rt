@@ -2,7 +2,7 @@
 ghost use Rattle.wire.specs.MessageSpelling.{MessageInRange};
 
 use ais_values::{Duplicate, Name, Seq, Text};
-use calls::{Boxed, Call, Entry, Reply, Saved, SavedStream};
+use calls::{Boxed, Call, Entry, Reply, Saved, SavedStream, Shared};
 use std::alloc::Global;
 use std::process::Abort;
 use stream_config::{FullAction, LogFile, Mark, StreamAttrs, StreamName, StreamState};
@@ -64,7 +64,7 @@ fn requests_replies_and_receipts(rt: HostRuntime) {
     let request = Message::Request {
         client: 1,
         seq: 1,
-        call: Call::LogInit,
+        call: Shared::new(alloc, Call::LogInit).expect(&rt, "memory"),
     };
     spelled(&rt, alloc, request, &[1, 0, 1, 0, 0, 0, 1, 1]);
     let reply = Message::Reply {
@@ -88,7 +88,7 @@ fn a_mask_and_a_mark(rt: HostRuntime) {
     let request = Message::Request {
         client: 1,
         seq: 1,
-        call: Call::LogFilter { stream, mask: 258 },
+        call: Shared::new(alloc, Call::LogFilter { stream, mask: 258 }).expect(&rt, "memory"),
     };
     spelled(
         &rt,
@@ -117,7 +117,7 @@ fn messages_of_servers(rt: HostRuntime) {
         client: 4096,
         seq: 1,
         time: -1,
-        call: Call::ReaderEnd,
+        call: Shared::new(alloc, Call::ReaderEnd).expect(&rt, "memory"),
     };
     let mirror = Message::Mirror { number: 2, entry };
     spelled(
@@ -179,6 +179,7 @@ fn a_snapshot(rt: HostRuntime) {
         subs: Seq::new(alloc),
         readers: Seq::new(alloc),
     };
+    let saved = Boxed::new(alloc, saved).expect(&rt, "memory");
     spelled(
         &rt,
         alloc,
@@ -260,6 +261,7 @@ fn saved_stream(rt: &impl Abort, alloc: Global) -> Message
         subs: Seq::new(alloc),
         readers: Seq::new(alloc),
     };
+    let saved = Boxed::new(alloc, saved).expect(rt, "memory");
     Message::Snapshot { saved }
 }
 
@@ -284,7 +286,7 @@ fn a_name_and_a_text(rt: HostRuntime) {
     let request = Message::Request {
         client: 1,
         seq: 1,
-        call: Call::LogClose { stream },
+        call: Shared::new(alloc, Call::LogClose { stream }).expect(&rt, "memory"),
     };
     spelled(&rt, alloc, request, &[1, 0, 1, 0, 0, 0, 1, 4, 4, 0, 1, 119]);
 }
@@ -353,7 +355,7 @@ fn other_bytes_are_other_requests(rt: HostRuntime) {
     ];
     for (at, byte, client, seq) in table {
         let bytes = changed(at, byte);
-        let call = Call::LogInit;
+        let call = Shared::new(rt.alloc(), Call::LogInit).expect(&rt, "memory");
         let message = Message::Request { client, seq, call };
         read(&rt, rt.alloc(), &bytes, &message);
         let_message_go(Some(message));

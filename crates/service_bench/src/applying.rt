@@ -4,7 +4,7 @@ ghost use Rattle.service_core.specs.Applying.{CanAcceptIn};
 
 use crate::calling::{alarm_of, join_of, open_of, start_of, subscribe_of};
 use crate::kind::Kind;
-use calls::{Call, Entry};
+use calls::{Call, Entry, Shared};
 use service_core::Service;
 use std::alloc::{AllocError, Global};
 
@@ -37,6 +37,7 @@ fn apply(alloc: Global, service: &mut Service, client: u16, call: Call) -> Resul
         drop(call);
         return Err(AllocError);
     }
+    let call = Shared::new(alloc, call)?;
     let entry = Entry::Called {
         client,
         seq: service.next(client),

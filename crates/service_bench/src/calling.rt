@@ -5,7 +5,7 @@ use ntf_filters::{Filter, FilterSet};
 use ntf_types::{Body, Notification};
 use record_print::Header;
 use std::alloc::{AllocError, Global};
-use stream_config::{StreamAttrs, StreamName, well_known};
+use stream_config::{StreamName, well_known};
 
 const CLASS: ClassId = ClassId {
     vendor: 1,
@@ -56,16 +56,11 @@ pub(crate) fn join_of() -> Call {
 pub(crate) fn open_of(alloc: Global, number: u32, record_size: u32) -> Result<Call, AllocError> {
     let stream = stream_of(alloc, number)?;
     let file = text_of(alloc, &letters_of(number))?;
-    let given = well_known(alloc, StreamKind::System)?;
-    let create = StreamAttrs {
-        file,
-        record_size,
-        ..given
-    };
-    Ok(Call::LogOpen {
-        stream,
-        create: Some(create),
-    })
+    let mut attrs = well_known(alloc, StreamKind::System)?;
+    attrs.file = file;
+    attrs.record_size = record_size;
+    let create = Some(attrs);
+    Ok(Call::LogOpen { stream, create })
 }
 
 /// The streams of applications in turn, or the system stream where there is none.

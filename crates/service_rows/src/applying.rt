@@ -7,7 +7,7 @@ use crate::files::perform_all;
 use crate::printing::{put, put_reply};
 use crate::twins::twin_agrees;
 use ais_values::Duplicate;
-use calls::{Call, Entry, Reply};
+use calls::{Call, Entry, Reply, Shared};
 use client_window::Judged;
 use service_core::{Effect, Service};
 use std::alloc::{AllocError, Global};
@@ -91,7 +91,7 @@ pub(crate) fn apply_call(
         return put(out, b"not accepted\n");
     }
     let seq = session.service.next(client);
-    let call = call.copy(alloc)?;
+    let call = Shared::new(alloc, call.copy(alloc)?)?;
     let entry = Entry::Called {
         client,
         seq,

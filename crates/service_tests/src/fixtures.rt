@@ -85,8 +85,7 @@ pub(crate) fn filter_by(rt: &impl Abort, alloc: Global, severities: &[u16]) -> F
 
 /// The filters that ask for alarms of these severities, or of all where there are none.
 pub(crate) fn alarms_by(rt: &impl Abort, alloc: Global, severities: &[u16]) -> FilterSet {
-    FilterSet {
-        alarms: Some(filter_by(rt, alloc, severities)),
-        ..no_filters()
-    }
+    let mut filters = no_filters();
+    filters.alarms = Some(filter_by(rt, alloc, severities));
+    filters
 }

@@ -40,14 +40,12 @@ fn system(alloc: Global, max_file: u64, action: FullAction) -> Result<StreamAttr
     ensures file { IfOk result (λ attrs. attrs.file ≡ default_file System) }
     ensures passes { IfOk result (PassesAttrs System) }
 {
-    let given = well_known(alloc, StreamKind::System)?;
-    Ok(StreamAttrs {
-        max_file,
-        record_size: 32,
-        action,
-        rotated: 1,
-        ..given
-    })
+    let mut given = well_known(alloc, StreamKind::System)?;
+    given.max_file = max_file;
+    given.record_size = 32;
+    given.action = action;
+    given.rotated = 1;
+    Ok(given)
 }
 
 /// A service with such a system stream.

@@ -8,10 +8,9 @@ use std::process::Abort;
 
 /// Filters that ask for all changes of states.
 fn all_states(rt: &impl Abort, alloc: Global) -> FilterSet {
-    FilterSet {
-        states: Some(filter_by(rt, alloc, &[])),
-        ..no_filters()
-    }
+    let mut filters = no_filters();
+    filters.states = Some(filter_by(rt, alloc, &[]));
+    filters
 }
 
 /// The client 3 asks for changes of states, and others for alarms.
@@ -45,11 +44,7 @@ fn send(rt: &impl Abort, alloc: Global, state: &mut NtfState) -> u64 {
 fn told(state: &NtfState, place: u32) -> (u16, usize, usize) {
     match state.sub_at(place) {
         None => (0, 0, 0),
-        Some(kept) => (
-            kept.client,
-            kept.queue.items().len(),
-            kept.queue.lost().len(),
-        ),
+        Some(kept) => (kept.client, kept.queue.len(), kept.queue.lost().len()),
     }
 }
 

@@ -79,13 +79,12 @@ fn has_common(rt: &impl Abort, alloc: Global, common: Common) -> bool {
         cause: 65_535,
         severity: 0,
     };
-    is_sound(Notification {
-        event_time: common.time,
-        text: text_of(rt, alloc, common.text),
-        correlated: list_of(rt, alloc, common.correlated, 7),
-        info: pairs_of(rt, alloc, common.info, common.bytes),
-        ..notification(rt, alloc, 0x4001, body)
-    })
+    let mut given = notification(rt, alloc, 0x4001, body);
+    given.event_time = common.time;
+    given.text = text_of(rt, alloc, common.text);
+    given.correlated = list_of(rt, alloc, common.correlated, 7);
+    given.info = pairs_of(rt, alloc, common.info, common.bytes);
+    is_sound(given)
 }
 
 /// Each edge of the parts that every notification has.

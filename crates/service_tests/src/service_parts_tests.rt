@@ -4,9 +4,10 @@ use ais_values::{Status, UNKNOWN_TIME};
 use alarm_view::AlarmView;
 use calls::{Reply, SavedReader};
 use client_window::Judged;
+use ntf_service::is_alarm;
 use service_parts::{
-    Told, accepted, answer_call, end_reading, is_alarm, judge_call, next_call, read_on, record_for,
-    room_for, start_reading, stop_reader,
+    Told, accepted, answer_call, end_reading, judge_call, next_call, read_on, record_for, room_for,
+    start_reading, stop_reader,
 };
 use std::alloc::Global;
 use std::process::Abort;

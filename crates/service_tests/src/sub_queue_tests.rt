@@ -11,13 +11,13 @@ fn numbered(rt: &impl Abort, alloc: Global, id: u64) -> Notification {
 }
 
 fn offer(rt: &impl Abort, alloc: Global, queue: &mut SubQueue, id: u64) {
-    let _held = queue.items();
+    let _held = queue.len();
     assert!(rt; queue.first() < 1000);
     queue.offer(numbered(rt, alloc, id)).expect(rt, "memory");
 }
 
 fn receive(rt: &impl Abort, queue: &mut SubQueue, through: u32) {
-    let _held = queue.items();
+    let _held = queue.len();
     assert!(rt; queue.first() < 1000);
     assert!(rt; queue.is_new(through));
     queue.acked(through);
@@ -48,7 +48,7 @@ fn has_in_front(rt: &impl Abort, alloc: Global, queue: &SubQueue, item: Item) ->
     let copy = item.copy(alloc).expect(rt, "memory");
     let equal = copy == item;
     drop(copy);
-    let found = queue.items().first() == Some(&item);
+    let found = queue.items().0.first() == Some(&item);
     drop(item);
     equal && found
 }
@@ -61,14 +61,14 @@ fn holds_what_was_lost(rt: HostRuntime) {
     for id in 1..6u64 {
         offer(&rt, alloc, &mut queue, id);
     }
-    assert!(rt; queue.items().len() == 2 && has_lost(&rt, alloc, &queue, &[3, 4, 5]));
+    assert!(rt; queue.len() == 2 && has_lost(&rt, alloc, &queue, &[3, 4, 5]));
     receive(&rt, &mut queue, 2);
     let content = Content::Discarded {
         lost: alarms_lost(&rt, alloc, &[3, 4, 5]),
     };
     let last = Item { number: 3, content };
     assert!(rt; has_in_front(&rt, alloc, &queue, last));
-    assert!(rt; queue.items().len() == 1 && queue.lost().is_empty());
+    assert!(rt; queue.len() == 1 && queue.lost().is_empty());
     drop(queue);
 }
 
@@ -92,7 +92,7 @@ fn takes_new_receipts(rt: HostRuntime) {
     let next = Item { number: 3, content };
     assert!(rt; queue.first() == 3 && has_in_front(&rt, alloc, &queue, next));
     receive(&rt, &mut queue, 4);
-    assert!(rt; queue.items().is_empty() && queue.first() == 5);
+    assert!(rt; queue.len() == 0 && queue.first() == 5);
     drop(queue);
 }
 
@@ -116,7 +116,8 @@ fn rebuilds(rt: HostRuntime) {
     let mut queue = rebuilt(&rt, alloc);
     offer(&rt, alloc, &mut queue, 11);
     receive(&rt, &mut queue, 40);
-    let numbers = queue.items().iter().map(|item| item.number);
+    let (front, behind) = queue.items();
+    let numbers = front.iter().chain(behind.iter()).map(|item| item.number);
     let numbers = numbers.collect::<Vec<u32>>(alloc).expect(&rt, "memory");
     assert!(rt; numbers.as_slice() == [41, 42].as_slice());
     assert!(rt; queue.lost().is_empty());
@@ -125,7 +126,7 @@ fn rebuilds(rt: HostRuntime) {
 
 /// Offers an alarm into room that is made for it before.
 fn offer_reserved(rt: &impl Abort, alloc: Global, queue: &mut SubQueue, id: u64) {
-    let _held = queue.items();
+    let _held = queue.len();
     assert!(rt; queue.first() < 1000);
     let notification = numbered(rt, alloc, id);
     queue.reserve(alloc).expect(rt, "memory");
@@ -140,7 +141,7 @@ fn offers_into_room(rt: HostRuntime) {
     for id in 1..9u64 {
         offer_reserved(&rt, alloc, &mut queue, id);
     }
-    assert!(rt; queue.items().len() == 1);
+    assert!(rt; queue.len() == 1);
     assert!(rt; has_lost(&rt, alloc, &queue, &[2, 3, 4, 5, 6, 7, 8]));
     drop(queue);
 }
