@@ -1,5 +1,6 @@
 //! The queue, its feeder and its takers.
-ghost use Rattle.std.specs.Prelude.{◌≡◌, suc, ◌+◌, ◌-◌, ◌^◌, ◌<◌, ◌≤◌, Some, [], ◌∷◌, ◌++◌, length, IfOk, IfErr, OnOk, OnErr, IfSome, IfNone};
+ghost use Rattle.std.specs.Prelude.{◌≡◌, suc, ◌+◌, ◌-◌, ◌^◌, ◌<◌, ◌≤◌, Some, []};
+ghost use Rattle.std.specs.Prelude.{◌∷◌, ◌++◌, length, IfOk, IfErr, OnOk, OnErr, IfSome, IfNone};
 ghost use mathlib.Core.List.{IsPrefix};
 ghost use Rattle.callback_dispatch.specs.Seen.{numbered, AllBelow, union, longer_of, IsBeginningOf, IsMade};
 ghost use Rattle.callback_dispatch.specs.Rule.{IsNext, IsOfFed};
@@ -16,9 +17,16 @@ use std::sync::Wait;
 ///
 /// Its feeder puts callbacks in, and its takers hand them out. The shares of the takers in use add up to 8, so a
 /// taker of share 8 is the only one.
-#[derive(Drop)]
 pub struct CallbackQueue {
     ring: Ring,
+}
+
+// Written out, as a derived one is proved anew in each crate that lets such a value go.
+impl Drop for CallbackQueue {
+    fn drop(self) {
+        let CallbackQueue { ring } = self;
+        drop(ring);
+    }
 }
 
 impl Model for CallbackQueue {

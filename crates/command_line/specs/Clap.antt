@@ -9,11 +9,13 @@ command_rule = record (new_rule (codes "command")) { required = true }
 abbrev pub values_rule : Rule
 values_rule = record (new_rule (codes "values")) { range = Some (record { start_inclusive = 0; end_inclusive = 5 }) }
 
--- the first word is required, the last argument takes up to five values, and there are no options
+-- there are no options
+abbrev pub bare_app : App
+bare_app = on_top (λ shape. record shape { no_binary_name = true; disable_help_flag = true }) (new_app (codes "aisrun"))
+
+-- the first word is required, and the last argument takes up to five values
 abbrev pub line_app : App
-line_app =
-    let bare = on_top (λ shape. record shape { no_binary_name = true; disable_help_flag = true }) (new_app (codes "aisrun")) in
-    with_rule (with_rule bare command_rule) values_rule
+line_app = with_rule (with_rule bare_app command_rule) values_rule
 
 -- the first word, and the values behind it
 abbrev pub gathered : List Row → Option (List (List ℕ))

@@ -1,10 +1,10 @@
 //! The words of the command line, read by one `clap` command.
 #![tactic(auto)]
 
-ghost use Rattle.std.specs.Prelude.{◌≡◌, [], IfOk, IfErr, map, option_map, string_bytes, true};
+ghost use Rattle.std.specs.Prelude.{◌≡◌, [], IfOk, IfErr, false, map, option_map, string_bytes, true};
 ghost use Rattle.std.specs.List.{list_any};
-ghost use Rattle.clap.specs.Words.{app_of, fault_of, found_of, kind_of, matches_of, rows_of, takes};
-ghost use Rattle.command_line.specs.Clap.{gathered, line_app};
+ghost use Rattle.clap.specs.Words.{app_of, fault_of, found_of, kind_of, matches_of, rows_of, rule_of, takes};
+ghost use Rattle.command_line.specs.Clap.{bare_app, command_rule, gathered, line_app, values_rule};
 ghost use Rattle.command_line.specs.Lines.{is_dashed, line_of};
 
 use clap::error::ErrorKind;
@@ -28,17 +28,37 @@ fn has_dashed(words: &[String]) -> bool
     words.iter().any(|word| is_dashed(word.as_str()))
 }
 
+// The command without arguments.
+fn bare_command<'a>(alloc: Global) -> Command<'a>
+    ensures { app_of result ≡ bare_app }
+{
+    Command::new(alloc, "aisrun")
+        .no_binary_name(true)
+        .disable_help_flag(true)
+}
+
+// The first word, which is required.
+fn command_word<'a>(alloc: Global) -> Arg<'a>
+    ensures rule { rule_of result ≡ command_rule }
+    ensures local { result.global ≡ false }
+{
+    Arg::new(alloc, "command").required(true)
+}
+
+// Up to five values.
+fn value_words<'a>(alloc: Global) -> Arg<'a>
+    ensures rule { rule_of result ≡ values_rule }
+    ensures local { result.global ≡ false }
+{
+    Arg::new(alloc, "values").num_args(0..=5)
+}
+
 // The command: a word that is required, and up to five values behind it.
 fn line_command<'a>(alloc: Global) -> Result<Command<'a>, AllocError>
     ensures { IfOk result (λ command. app_of command ≡ line_app) }
 {
-    let word = Arg::new(alloc, "command").required(true);
-    let values = Arg::new(alloc, "values").num_args(0..=5);
-    let command = Command::new(alloc, "aisrun")
-        .no_binary_name(true)
-        .disable_help_flag(true)
-        .arg(word)?
-        .arg(values)?;
+    let command = bare_command(alloc).arg(command_word(alloc))?;
+    let command = command.arg(value_words(alloc))?;
     Ok(command)
 }
 

@@ -124,30 +124,15 @@ pub fn well_attrs(
     requires { kind ≢ kinds.Application }
     ensures { IfOk result (λ attrs. attrs ≡ well_attrs kind options.now) }
 {
-    let StreamAttrs {
-        file,
-        path,
-        max_file,
-        record_size,
-        ha,
-        action,
-        rotated,
-        expr,
-    } = well_known(alloc, kind)?;
-    let expr = match &options.fmt {
-        Some(given) => given.copy(alloc)?,
-        None => expr,
-    };
-    Ok(StreamAttrs {
-        file,
-        path,
-        max_file: options.max.unwrap_or(max_file),
-        record_size: options.rec.unwrap_or(record_size),
-        ha,
-        action: options.full.unwrap_or(action),
-        rotated: options.rot.unwrap_or(rotated),
-        expr,
-    })
+    let mut attrs = well_known(alloc, kind)?;
+    if let Some(given) = &options.fmt {
+        attrs.expr = given.copy(alloc)?;
+    }
+    attrs.max_file = options.max.unwrap_or(attrs.max_file);
+    attrs.record_size = options.rec.unwrap_or(attrs.record_size);
+    attrs.action = options.full.unwrap_or(attrs.action);
+    attrs.rotated = options.rot.unwrap_or(attrs.rotated);
+    Ok(attrs)
 }
 
 /// Whether the well-known stream of a kind may have what the options say.

@@ -13,7 +13,7 @@ pub enum Server {
 }
 
 /// What a cluster line says of a well-known stream. What is absent has its default.
-#[derive(PartialEq, Drop)]
+#[derive(PartialEq)]
 pub struct WellOptions {
     /// The expression by which its records are printed.
     pub fmt: Option<Text>,
@@ -27,8 +27,22 @@ pub struct WellOptions {
     pub rot: Option<u32>,
 }
 
+// Written out, as a derived one is proved anew in each crate that lets such a value go.
+impl Drop for WellOptions {
+    fn drop(self) {
+        let WellOptions {
+            fmt,
+            rec: _,
+            max: _,
+            full: _,
+            rot: _,
+        } = self;
+        drop(fmt);
+    }
+}
+
 /// A line of a script that is not skipped.
-#[derive(Drop, PartialEq)]
+#[derive(PartialEq)]
 pub enum Line {
     /// The first line: the time at the start in nanoseconds, the lengths of the queues, and the well-known streams.
     Cluster {
@@ -97,6 +111,52 @@ pub enum Line {
     Cat {
         name: Text,
     },
+}
+
+// Written out, as a derived one is proved anew in each crate that lets such a value go.
+impl Drop for Line {
+    fn drop(self) {
+        match self {
+            Line::Cluster {
+                start: _,
+                queue: _,
+                callbacks: _,
+                alarm,
+                ntf,
+                sys,
+            } => {
+                drop(alarm);
+                drop(ntf);
+                drop(sys);
+            }
+            Line::Time { now: _ } => {}
+            Line::Log { client: _, ask } => drop(ask),
+            Line::Ntf { client: _, ask } => drop(ask),
+            Line::Deliver { place: _ } => {}
+            Line::Resend { client: _ } => {}
+            Line::Mirror => {}
+            Line::Ack => {}
+            Line::Work => {}
+            Line::Push => {}
+            Line::Inject { bytes } => drop(bytes),
+            Line::Settle => {}
+            Line::Crash { server: _ } => {}
+            Line::Arm {
+                server: _,
+                count: _,
+            } => {}
+            Line::Disarm => {}
+            Line::Restart { server: _ } => {}
+            Line::DispatchOne { client: _ } => {}
+            Line::DispatchAll {
+                client: _,
+                workers: _,
+            } => {}
+            Line::Servers => {}
+            Line::Files => {}
+            Line::Cat { name } => drop(name),
+        }
+    }
 }
 
 impl Duplicate for Server {
