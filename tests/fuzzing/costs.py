@@ -1,4 +1,5 @@
-"""Scripts that fill what a world keeps, whose cost may grow with it: queues, the net, clients, subscriptions, calls without reply."""
+"""Scripts that fill what a world keeps, whose cost may grow with it: queues, the net, clients, subscriptions, calls without reply; or that
+hand it on again and again."""
 import os
 import sys
 
@@ -6,6 +7,8 @@ sys.path.insert(0, os.path.join(os.path.dirname(os.path.abspath(__file__)), ".."
 from measuring import START, differ, play, processor_time, save_script, spent, write_line
 
 CLIENTS, WINDOW, SUBSCRIPTIONS = 4096, 32, 64
+# So many falls of a server are in a script at most.
+FALLS = 300
 # A script is too dear from so many times the plain program's time of the processor on; below so many seconds none is.
 MOST_TIMES, LEAST_SECONDS = 5, 0.1
 
@@ -42,7 +45,7 @@ class Script:
     """A script of the lines that bench/plain takes. Writers have no subscription, so their queues hold replies alone."""
 
     def __init__(self, rng):
-        self.rng, self.callbacks, self.sent = rng, upto(rng, 256), 0
+        self.rng, self.callbacks, self.sent, self.falls = rng, upto(rng, 256), 0, 0
         self.lines = [f"cluster start={START} queue={upto(rng, 256)} callbacks={self.callbacks}"]
         self.writers = [Client() for _ in range(upto(rng, CLIENTS - 1))]
         self.subscriber = len(self.writers) + 1
@@ -54,7 +57,7 @@ class Script:
                 self.ask(number, f"log {number} open system")
             else:
                 self.writers[number - 1].next = 0
-        subscriptions = rng.choice((0, upto(rng, SUBSCRIPTIONS - 1)))
+        subscriptions = rng.choice((0, upto(rng, SUBSCRIPTIONS - 1), SUBSCRIPTIONS - 1))
         self.lines += [f"ntf {self.subscriber} init A.1.1"] + ["settle"] * (subscriptions > WINDOW - 2)
         for place in range(subscriptions):
             self.lines += [f"ntf {self.subscriber} subscribe {place + 1} filter alarm"] + ["settle"] * (place % (WINDOW - 2) == WINDOW - 3)
@@ -91,6 +94,9 @@ class Script:
 
     def fail(self):
         server = self.rng.choice("ab")
+        if self.falls == FALLS:
+            return
+        self.falls += 1
         self.settle()
         self.lines += [f"crash {server}", f"restart {server}"]
         self.settle()
@@ -99,7 +105,7 @@ class Script:
         """Adds so many turns, each kind as often as this script has it."""
         self.flags = self.rng.choice((0, 0.1, 1))
         kinds = (self.write, self.send, self.settle, self.dispatch, self.fail)
-        often = [upto(self.rng, 100) - 1 for _ in kinds[:-1]] + [self.rng.choice((0, 0, 1))]
+        often = [upto(self.rng, 100) - 1 for _ in kinds[:-1]] + [self.rng.choice((0, 0, 1, upto(self.rng, 100)))]
         for kind in self.rng.choices(kinds, often, k=count) if any(often) else ():
             kind()
         return self.lines
