@@ -4,6 +4,7 @@ ghost use Rattle.mirror.specs.declared.heard.Role.TheVariants.{Active};
 ghost use Rattle.mirror.specs.ByValue.{items_pushed};
 ghost use Rattle.mirror.specs.Hearing.{CanHear};
 ghost use Rattle.mirror.specs.Pairing.{CanReceive};
+ghost use Rattle.mirror.specs.Replicas.{HasRoom};
 ghost use Rattle.cluster_clients.specs.Posted.{PostsAll, PostsSome};
 ghost use Rattle.lead_server.specs.Confirming.{is_acknowledged};
 ghost use Rattle.lead_server.specs.Heard.{AnswersInRange, HoldsInRange, Hears, HearsPartly, IsConfirmed, IsHeldBy, PushesPartly};
@@ -62,7 +63,8 @@ fn is_acknowledged(role: Role, message: &Message) -> bool
     }
 }
 
-/// The active server hears a message of a server beside it. Where 4,000,000,000 entries were accepted it answers as if memory ran out.
+/// The active server hears a message of a server beside it. Where 4,000,000,000 entries were accepted it answers as if memory ran out; on an
+/// error it stays as it was.
 pub fn confirm(
     alloc: Global,
     active: &mut Node,
@@ -70,7 +72,9 @@ pub fn confirm(
     now: i64,
 ) -> Result<(), AllocError>
     requires { (moment : ℤ) → CanReceive message.now moment active.old }
-    ensures { OnOk result (IsConfirmed message.now active.old active.new) }
+    ensures ok { OnOk result (IsConfirmed message.now active.old active.new) }
+    ensures room { OnOk result (HasRoom active.old.replica.service) }
+    ensures err { OnErr result (active.new ≡ active.old) }
 {
     if !active.has_room() {
         return Err(AllocError);

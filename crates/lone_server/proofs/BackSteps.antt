@@ -55,6 +55,12 @@ linked-is number old middle new heard role idle begun confirmed =
     in
     last.1 ∙ first.1
 
+-- it was not confirmed
+pub linked-or : (old middle new : NodeState) (heard : Heard) → old.replica.owed ≡ None → IsJoinBegun (is_some old.replica.owed) old heard middle → new ≡ middle → (new ≡ old) ⊎ (new ≡ linked old)
+linked-or old middle new heard idle begun same =
+    let first : IsJoinBegun false old heard middle = subst (λ (owed : Option Owed). IsJoinBegun (is_some owed) old heard middle) idle begun in
+    inr (same ∙ first.1)
+
 -- An answer beside another result.
 
 pub either-as : {T U : Type 0} (one one_new two two_new : ℕ) (answer error : ColdAnswer) → RoseByEither {T = T} one one_new two two_new (Err answer) error → RoseByEither {T = U} one one_new two two_new (Err answer) error

@@ -74,3 +74,10 @@ pub record HearsOne (old new : Lone) : Type 0 where
 abbrev pub HearsBack : Bool → Lone → Lone → Type 0
 HearsBack true old new = HearsOne old new
 HearsBack false old new = (old.back ≡ []) × (new ≡ old)
+
+-- the first message that came back is lost, and nothing else changes
+pub record LosesBack (old new : Lone) : Type 0 where
+  pub message : Message
+  pub rest : List Message
+  pub first : old.back ≡ message ∷ rest
+  pub is : new ≡ record old { back = rest }

@@ -117,11 +117,13 @@ fn tell_found(
 }
 
 /// The server is linked to its journal, as to a standby that has joined: the value that such a one would be sent is let go, and its
-/// confirmation is given to the server. Nothing may be in hand.
+/// confirmation is given to the server. Nothing may be in hand. Where 4,000,000,000 entries were accepted it answers as if memory ran out. On
+/// an error the server is as it was, or linked.
 pub fn link_journal(alloc: Global, node: &mut Node, number: u64) -> Result<(), AllocError>
     requires role { node.old.replica.role ≡ Active }
     requires idle { node.old.replica.owed ≡ None }
-    ensures { OnOk result (node.new ≡ linked node.old) }
+    ensures ok { OnOk result (node.new ≡ linked node.old) }
+    ensures err { OnErr result ((node.new ≡ node.old) ⊎ (node.new ≡ linked node.old)) }
 {
     match node.begin_join(alloc) {
         Ok(heard) => let_heard_go(heard),

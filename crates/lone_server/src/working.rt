@@ -1,12 +1,12 @@
 //! The entry in hand is worked, and what came back from the journal is heard.
-ghost use Rattle.std.specs.Prelude.{◌≡◌, None, IfErr, IfOk, IsSome, OnOk};
+ghost use Rattle.std.specs.Prelude.{◌≡◌, None, IfErr, IfOk, IsSome, OnErr, OnOk};
 ghost use Rattle.std.specs.List.{AllByRecursion};
 ghost use Rattle.ais_values.specs.Causes.{RoseExactlyOn};
 ghost use Rattle.disk_model.specs.declared.answers.DiskAnswer.{DiskAnswer};
 ghost use Rattle.stream_layout.specs.Deeds.{calls_of_all};
 ghost use Rattle.wire.specs.MessageSpelling.{MessageInRange};
 ghost use Rattle.mirror.specs.Working.{deeds_in, replies_in};
-ghost use Rattle.lone_server.specs.Working.{CanHearAll, HearsBack, WorkBreaks, Works, WorksOver};
+ghost use Rattle.lone_server.specs.Working.{CanHearAll, HearsBack, LosesBack, WorkBreaks, Works, WorksOver};
 
 use crate::{Lone, fall};
 use ais_values::Seq;
@@ -76,10 +76,11 @@ pub fn work_entry<D: SharedDisk, J: SharedDisk>(
 }
 
 /// The server hears the first message that came back from the journal, if there is one. Answers whether there was one. Where 4,000,000,000
-/// entries were accepted it answers as if memory ran out.
+/// entries were accepted it answers as if memory ran out. On an error the message is lost, and all else stays.
 pub fn hear_back(alloc: Global, servers: &mut Lone, now: i64) -> Result<bool, AllocError>
     requires { CanHearAll servers.old.node servers.old.back }
     ensures ok { IfOk result (λ heard. HearsBack heard servers.old servers.new) }
+    ensures err { OnErr result (LosesBack servers.old servers.new) }
     ensures armed { servers.new.armed ≡ servers.old.armed }
 {
     let message = match take_first(alloc, &mut servers.back) {

@@ -16,6 +16,6 @@ returns-in-Ok-tell_found-clause-ok c =
     let found = c.in-Ok-tell_found.found in
     let told : T (length c.args.history.now.entries) found = subst (λ (known : ℕ). T known found) c.len.ensures c.in-Ok-tell_found.ensures in
     record {
-      is = ap (λ (node : NodeState). record c.args.servers.now { node = node; journal = c.args.cold.journal }) (c.replace-in-Ok-tell_found.ensures.after ∙ c.in-Ok.ensures);
+      is = ap (λ (node : NodeState). record c.args.servers.now { node = node; journal = c.args.cold.journal }) (c.replace-in-Ok-tell_found.ensures.after ∙ c.in-Ok.ensures.ok);
       tells = subst (λ (history : Pushed). T (length c.args.history.now.entries) history) (sym c.replace.ensures.after) told;
     }

@@ -1,5 +1,6 @@
 use Rattle.std.proofs.Common.{List, refl, ap, subst, sym, ◌∙◌}
 use Rattle.wire.specs.declared.message.Message.{Message}
+use Rattle.mirror.specs.declared.state.NodeState.{NodeState}
 use Rattle.lone_server.specs.Working.{CanHearAll}
 use Rattle.lone_server.proofs.working.hear_back.Goals as goal
 
@@ -20,5 +21,13 @@ returns-in-Ok-clause-ok c = record {
   link = refl;
   journal = refl;
   armed = refl;
-  confirmed = c.in-Ok.ensures;
+  confirmed = c.in-Ok.ensures.ok;
+}
+
+pub returns-in-Err-clause-err : goal.returns-in-Err-clause-err
+returns-in-Err-clause-err c = record {
+  message = c.in-Some.message;
+  rest = c.take_first.new.list;
+  first = c.in-Some.ensures;
+  is = ap (λ (node : NodeState). record c.args.servers.now { node = node; back = c.take_first.new.list }) c.in-Err.ensures.err;
 }
