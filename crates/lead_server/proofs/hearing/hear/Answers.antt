@@ -16,7 +16,7 @@ is_answered-requires-clause-range c = λ answer again.
 pub returns-then-answered-clause-ok : goal.returns-then-answered-clause-ok
 returns-then-answered-clause-ok c =
     let a = c.args in
-    let said = c.in_ok-answered.ensures c.if-answered.true in
+    let said = c.in_ok-answered.ensures.posted c.if-answered.true in
     record {
       room = c.has_room.ensures.0 c.if-not-has_room.false;
       heard = repeated said.0;
