@@ -1,5 +1,5 @@
 //! Messages on the way between servers.
-ghost use Rattle.std.specs.Prelude.{◌≡◌, ◌++◌, [], OnOk};
+ghost use Rattle.std.specs.Prelude.{◌≡◌, ◌++◌, [], OnOk, OnErr};
 ghost use Rattle.lead_server.specs.Told.{TakesFirst};
 
 use ais_values::Seq;
@@ -7,20 +7,24 @@ use std::alloc::{AllocError, Global};
 use std::mem;
 use wire::{Message, let_messages_go};
 
-/// Adds messages behind those on the way. Where memory runs out nothing is said of these.
+/// Adds messages behind those on the way. Where memory runs out these stay, and the new ones are let go.
 pub fn send_all(
     alloc: Global,
     list: &mut Seq<Message>,
     messages: Seq<Message>,
 ) -> Result<(), AllocError>
-    ensures { OnOk result (list.new ≡ list.old ++ messages) }
+    ensures ok { OnOk result (list.new ≡ list.old ++ messages) }
+    ensures err { OnErr result (list.new ≡ list.old) }
 {
     let mut items = mem::replace(list, Seq::new(alloc)).into_vec();
     let mut more = messages.into_vec();
     let added = items.append(&mut more);
     let_messages_go(Seq::from_vec(more));
     let_messages_go(mem::replace(list, Seq::from_vec(items)));
-    added
+    match added {
+        Ok(()) => Ok(()),
+        Err(error) => Err(error),
+    }
 }
 
 /// Takes the first message, if there is one.

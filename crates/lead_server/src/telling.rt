@@ -49,7 +49,7 @@ fn put_outcome(
     }
 }
 
-/// Adds an entry to the history, and its line. Where memory runs out, or the history has 4,000,000,000 entries, it stays.
+/// Adds an entry to the history, and its line. Where memory runs out, or the history has 4,000,000,000 entries, both stay.
 fn commit_one(
     alloc: Global,
     history: &mut History,
@@ -60,6 +60,7 @@ fn commit_one(
     ensures ok { OnOk result (Commits (Some entry) history.old.entries history.new.entries
         lines.old.items lines.new.items) }
     ensures err { OnErr result (history.new ≡ history.old) }
+    ensures lines { OnErr result (lines.new.items ≡ lines.old.items) }
 {
     let count = history.len();
     if count >= ENTRIES {
@@ -78,7 +79,7 @@ fn commit_one(
     }
 }
 
-/// Adds an entry to the history, and its line, if there is one. Where memory runs out, or the history has 4,000,000,000 entries, it stays.
+/// Adds an entry to the history, and its line, if there is one. Where memory runs out, or the history has 4,000,000,000 entries, both stay.
 pub fn commit(
     alloc: Global,
     history: &mut History,
@@ -89,6 +90,7 @@ pub fn commit(
     ensures ok { OnOk result (Commits committed history.old.entries history.new.entries
         lines.old.items lines.new.items) }
     ensures err { OnErr result (history.new ≡ history.old) }
+    ensures lines { OnErr result (lines.new.items ≡ lines.old.items) }
 {
     match committed {
         None => Ok(()),
