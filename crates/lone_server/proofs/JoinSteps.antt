@@ -1,6 +1,6 @@
 -- The entry that is first on the way joins the journal, by how the append ended.
 use Rattle.std.proofs.Common.{◌≡◌, ◌↔◌, inl, inr, ℕ, Bool, true, false, IsTrue, ◌==◌, Option, Some, None, List, [], ◌∷◌, length, refl, ap, sym, subst, ◌∙◌}
-use Rattle.std.specs.Prelude.{Ok, Err}
+use Rattle.std.specs.Prelude.{Result, Ok, Err, OnErr, OnOk}
 use Rattle.std.proofs.lemmas.Bool.Decides.{eqb_tells}
 use Rattle.disk_model.specs.Seen.{DiskSeen}
 use Rattle.disk_model.specs.declared.answers.DiskAnswer.TheVariants.{Memory}
@@ -16,6 +16,11 @@ use Rattle.lone_server.specs.Joining.{CommitsJoined, CommitsOrNot, FirstOrNot, J
 pub commits-one : (number : ℕ) (entry : Entry) (old new : Lone) (past reserved entries : List Entry) (before after : List (List ℕ)) → reserved ≡ past → Commits (Some entry) reserved entries before after → new ≡ confirmed_by number old → CommitsJoined (Some (number, entry)) old new past entries before after
 commits-one number entry old new past reserved entries before after same commits is =
     (is, subst (λ (p : List Entry). Commits (Some entry) p entries before after) same commits)
+
+-- that it joined is on the way back, or all stays
+pub back-armed : {T E : Type 0} (result : Result T E) (number : ℕ) (old new : Lone) → OnOk result (new ≡ confirmed_by number old) → OnErr result (new ≡ old) → new.armed ≡ old.armed
+back-armed (Ok x) number old new done stays = ap (λ (servers : Lone). servers.armed) done
+back-armed (Err error) number old new done stays = ap (λ (servers : Lone). servers.armed) stays
 
 or-same : (found : Option (ℕ × Entry)) (past entries : List Entry) → entries ≡ past → CommitsOrNot found past entries
 or-same None past entries same = same

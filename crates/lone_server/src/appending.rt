@@ -63,10 +63,10 @@ fn one(alloc: Global, message: Message) -> Result<Seq<Message>, AllocError>
     Ok(Seq::from_vec(messages))
 }
 
-/// That the entry of this number is in the journal is on the way back.
+/// That the entry of this number is in the journal is on the way back. Where memory runs out all stays.
 pub fn put_back(alloc: Global, servers: &mut Lone, number: u64) -> Result<(), AllocError>
     ensures ok { OnOk result (servers.new ≡ confirmed_by number servers.old) }
-    ensures armed { servers.new.armed ≡ servers.old.armed }
+    ensures err { OnErr result (servers.new ≡ servers.old) }
 {
     match one(alloc, Message::MirrorAck { number }) {
         Ok(messages) => send_all(alloc, &mut servers.back, messages),

@@ -81,7 +81,6 @@ pub fn hear_back(alloc: Global, servers: &mut Lone, now: i64) -> Result<bool, Al
     requires { CanHearAll servers.old.node servers.old.back }
     ensures ok { IfOk result (λ heard. HearsBack heard servers.old servers.new) }
     ensures err { OnErr result (LosesBack servers.old servers.new) }
-    ensures armed { servers.new.armed ≡ servers.old.armed }
 {
     let message = match take_first(alloc, &mut servers.back) {
         Some(message) => message,

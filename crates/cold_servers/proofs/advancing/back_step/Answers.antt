@@ -1,4 +1,4 @@
-use Rattle.std.proofs.Common.{◌≡◌, Bool, [], subst, sym}
+use Rattle.std.proofs.Common.{◌≡◌, Bool, [], ap, subst, sym}
 use Rattle.std.specs.Prelude.{IfErr, IfOk}
 use Rattle.cluster_rounds.specs.declared.cluster.Cluster.{Cluster}
 use Rattle.cluster_rounds.specs.Came.{Advances, ComesOff}
@@ -24,7 +24,7 @@ hear_back-requires g c =
 pub returns-in-Err-clause-err : goal.returns-in-Err-clause-err
 returns-in-Err-clause-err g c =
     let held : ColdSeen = cold_kit.see (g.D.SharedDisk.seen c.args.disk.now) (g.J.SharedDisk.seen c.args.beside.now) in
-    back-off c.args.world.now c.hear_back.new.servers c.args.lines.now.items c.args.lines.now.items held c.hear_back.ensures.armed
+    back-off c.args.world.now c.hear_back.new.servers c.args.lines.now.items c.args.lines.now.items held (ap (λ (lone : Lone). lone.armed) c.in-Err.ensures.err.is)
 
 pub returns-in-Err-clause-counts : goal.returns-in-Err-clause-counts
 returns-in-Err-clause-counts g c = cold_laws.stands (cold_kit.see (g.D.SharedDisk.seen c.args.disk.now) (g.J.SharedDisk.seen c.args.beside.now))

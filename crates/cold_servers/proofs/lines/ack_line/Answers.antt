@@ -1,9 +1,10 @@
-use Rattle.std.proofs.Common.{◌≡◌, false, [], refl, sym, subst}
+use Rattle.std.proofs.Common.{◌≡◌, false, [], refl, ap, sym, subst}
 use Rattle.std.specs.Prelude.{Ok}
 use Rattle.script_lines.specs.declared.line.Line.{Line}
 use Rattle.script_lines.specs.declared.line.Line.TheVariants.{Ack}
 use Rattle.cluster_lines.specs.Lines.{shows_files}
 use Rattle.cluster_rounds.specs.declared.cluster.Cluster.{Cluster}
+use Rattle.lone_server.specs.declared.lone.Lone.{Lone}
 use Rattle.cold_servers.specs.declared.solo.Solo.{Solo}
 use Rattle.cold_servers.specs.ColdKit.{cold_kit}
 use Rattle.cold_servers.specs.ColdLaws.{cold_laws}
@@ -47,7 +48,7 @@ returns-in-Err g c =
     let old = c.args.world.now in
     let held : ColdSeen = cold_kit.see (g.D.SharedDisk.seen c.args.disk.now) (g.J.SharedDisk.seen c.args.beside.now) in
     record {
-      states = λ has. ack-off c.args.line.now old c.hear_back.new.servers c.args.lines.now.items held c.hear_back.ensures.armed;
+      states = λ has. ack-off c.args.line.now old c.hear_back.new.servers c.args.lines.now.items held (ap (λ (lone : Lone). lone.armed) c.in-Err.ensures.err.is);
       wild = tt;
       counts = cold_laws.stands held;
     }
