@@ -129,22 +129,48 @@ IsTiedByValue Linked saved now message old heard new =
 IsTiedByValue tie saved now message old heard new =
     IsHeardByValue saved now message heard new.replica × (new ≡ record old { replica = new.replica })
 
--- the active server is busy while an entry is in hand; said by the history that it stands for, and by each fit value of its service
+-- it is busy while an entry is in hand, by the history that it stands for and by the value of its service
+abbrev pub BusyByHistory : NodeState → Heard → NodeState → Type 0
+BusyByHistory old heard new =
+    (setup : Setup) (past : List Entry) (entry : Entry) → old.replica ≡ at_work setup past entry
+    → (heard ≡ ignored (Busy (suc (length past)))) × (new ≡ old)
+
+abbrev pub BusyByValue : NodeState → Heard → NodeState → Type 0
+BusyByValue old heard new =
+    (saved : Saved) (owed : Owed) → old.replica ≡ serving saved (Some owed) → (heard ≡ ignored (Busy saved.number)) × (new ≡ old)
+
+-- what it makes of a message with nothing in hand, by each history that it stands for and by each fit value of its service
+abbrev pub RestsByHistory : Message → ℤ → NodeState → Heard → NodeState → Type 0
+RestsByHistory message now old heard new =
+    (setup : Setup) (past : List Entry) → IsHistory setup past → old.replica ≡ at_rest setup past
+    → IsHeardTied old.tie setup past now message old heard new
+
+abbrev pub RestsByValue : Message → ℤ → NodeState → Heard → NodeState → Type 0
+RestsByValue message now old heard new =
+    (saved : Saved) → IsFit saved → old.replica ≡ serving saved None → IsTiedByValue old.tie saved now message old heard new
+
+-- what the active server makes of a message
 abbrev pub IsHeard : Message → ℤ → NodeState → Heard → NodeState → Type 0
 IsHeard message now old heard new =
-    ((setup : Setup) (past : List Entry) (entry : Entry) → old.replica ≡ at_work setup past entry → (heard ≡ ignored (Busy (suc (length past)))) × (new ≡ old))
-    × ((setup : Setup) (past : List Entry) → IsHistory setup past → old.replica ≡ at_rest setup past → IsHeardTied old.tie setup past now message old heard new)
-    × ((saved : Saved) (owed : Owed) → old.replica ≡ serving saved (Some owed) → (heard ≡ ignored (Busy saved.number)) × (new ≡ old))
-    × ((saved : Saved) → IsFit saved → old.replica ≡ serving saved None → IsTiedByValue old.tie saved now message old heard new)
+    BusyByHistory old heard new × RestsByHistory message now old heard new
+    × BusyByValue old heard new × RestsByValue message now old heard new
 
--- the standby applies the entry, keeps its deeds, and tells the active server; what it is then is said by a history and by a value
+-- what a standby is that applied an entry and keeps its deeds, by the history that it stood for and by the value of its service
+abbrev pub FollowsHistory : Entry → NodeState → NodeState → Type 0
+FollowsHistory entry old new =
+    (setup : Setup) (past : List Entry) → IsHistory setup past → CanFollow setup entry past
+    → old.replica ≡ started Standby (saved_of setup past)
+    → new ≡ record old { replica = started Standby (saved_of setup (entry ∷ past)); kept = Some (deeds_of setup past entry) }
+
+abbrev pub FollowsValue : Entry → NodeState → NodeState → Type 0
+FollowsValue entry old new =
+    (saved : Saved) → old.replica ≡ started Standby saved
+    → new ≡ record old { replica = started Standby (value_after entry saved); kept = Some (deeds_by_value entry saved) }
+
+-- and it tells the active server
 abbrev pub IsFollowed : ℕ → Entry → NodeState → Heard → NodeState → Type 0
 IsFollowed number entry old heard new =
-    (heard ≡ sent (MirrorAck number ∷ []) (Some entry) Applied)
-    × ((setup : Setup) (past : List Entry) → IsHistory setup past → CanFollow setup entry past → old.replica ≡ started Standby (saved_of setup past) →
-    new ≡ record old { replica = started Standby (saved_of setup (entry ∷ past)); kept = Some (deeds_of setup past entry) })
-    × ((saved : Saved) → old.replica ≡ started Standby saved
-    → new ≡ record old { replica = started Standby (value_after entry saved); kept = Some (deeds_by_value entry saved) })
+    (heard ≡ sent (MirrorAck number ∷ []) (Some entry) Applied) × FollowsHistory entry old new × FollowsValue entry old new
 
 -- what becomes of a message, by the server's role; one for another role changes nothing
 abbrev pub IsReceived : Role → Message → ℤ → NodeState → Heard → NodeState → Type 0
