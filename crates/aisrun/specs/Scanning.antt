@@ -27,6 +27,10 @@ ScansFront {words} can bytes text = TellsFront can.query.shown can.pieces can.qu
 abbrev pub ScansAll : {words : List (List ℕ)} → CanScan words → (bytes text : List ℕ) → Type 0
 ScansAll {words} can bytes text = TellsAll can.query.shown can.pieces can.query.size (wanted_of words) bytes text
 
+-- the words ask for records of streams of the kind
+abbrev pub AsksRecords : List (List ℕ) → StreamKind → Type 0
+AsksRecords words kind = (query : RecordQuery) × (command_of words ≡ Some (Scan query)) × (query.kind ≡ kind)
+
 -- the words are those of a command that takes a text as an expression for streams of the kind
 abbrev pub TakesText : List (List ℕ) → StreamKind → Type 0
-TakesText words kind = (command_of words ≡ Some (Expr kind)) ⊎ ((query : RecordQuery) × (command_of words ≡ Some (Scan query)) × (query.kind ≡ kind))
+TakesText words kind = (command_of words ≡ Some (Expr kind)) ⊎ AsksRecords words kind

@@ -24,14 +24,20 @@ use Rattle.played_runs.specs.Games.{Game}
 use Rattle.played_runs.specs.Playing.{PlaysFront, seen_behind}
 use Rattle.played_runs.specs.Telling.{TellsEach}
 
--- what was answered as stored before the last entry of a history, and has a place before it, stands there with its bytes, or at its place
--- after that entry, unless the entry leaves it none
+-- a record that has a place before the last entry stands there with its bytes, or at its place after that entry, unless the entry leaves it
+-- none
+abbrev pub KeptAtPlace : Setup → List Entry → Entry → StoredRecord → Files → Type 0
+KeptAtPlace setup past entry stored files =
+    (spot : List ℕ × ℕ) → place_of setup past stored ≡ Some spot
+    → IsKept service_disk (storage_of setup) (entry ∷ past) stored spot files
+
+-- so does what was answered as stored before it
 abbrev pub RecordsKept : Setup → List Entry → Files → Type 0
 RecordsKept setup [] files = Unit {0}
 RecordsKept setup (entry ∷ past) files =
     (client number : ℕ) (call : Call) (reply : Reply) → Stands (number, call, reply) (dealt_in (plain_of setup) client past)
     → is_stored call reply ≡ true → (stored : StoredRecord) × (record_of setup past client number ≡ Some stored)
-    × ((spot : List ℕ × ℕ) → place_of setup past stored ≡ Some spot → IsKept service_disk (storage_of setup) (entry ∷ past) stored spot files)
+    × KeptAtPlace setup past entry stored files
 
 -- each reply of the net is the plain service's to an entry of the history
 abbrev pub AnswersOnly : Setup → World → Type 0

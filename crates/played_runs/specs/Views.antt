@@ -1,7 +1,7 @@
 -- Words of public clauses: what a run follows of a disk.
-use Rattle.std.specs.Prelude.{◌≡◌, ◌⊎◌, ℕ, suc, length, Option, None, IfSome, option_map}
+use Rattle.std.specs.Prelude.{◌≡◌, ◌⊎◌, ℕ, suc, List, length, Option, None, IfSome, option_map}
 use Rattle.disk_model.specs.Counts.{Counters, asked, passed, read_more}
-use Rattle.disk_model.specs.DeviceCalls.{DoesFront, FailsAfter, LacksMemoryAfter}
+use Rattle.disk_model.specs.DeviceCalls.{DeviceCall, DoesFront, FailsAfter, LacksMemoryAfter}
 use Rattle.disk_model.specs.Disk.{Files, no_files}
 use Rattle.disk_model.specs.Seen.{DiskSeen}
 use Rattle.stream_layout.specs.Deeds.{calls_of_all}
@@ -41,13 +41,16 @@ behind_deeds setup first =
 abbrev pub behind_opening : Setup → Counters → Counters
 behind_opening setup first = behind_deeds setup (record { faults = first.faults; stops = first.stops; tally = read_more 1 first.tally })
 
+-- memory was wanting behind so many of these calls, which were counted
+abbrev pub LackedBehind : List DeviceCall → DiskSeen → DiskSeen → Type 0
+LackedBehind calls held left =
+    (count : ℕ) × LacksMemoryAfter calls count held.files left.files × (left.tally ≡ asked (passed count held.tally))
+
 -- Memory was wanting in the deeds of the start, or before them: some calls from the front were done, no call failed, and the disk did not
 -- stop. It is not armed, as it was not before.
 pub record LackedDeeds (setup : Setup) (held left : DiskSeen) : Type 0 where
   pub front : DoesFront (calls_of_all (opening_of setup)) held.files left.files
-  pub calls :
-      (left.tally ≡ held.tally)
-      ⊎ (count : ℕ) × LacksMemoryAfter (calls_of_all (opening_of setup)) count held.files left.files × (left.tally ≡ asked (passed count held.tally))
+  pub calls : (left.tally ≡ held.tally) ⊎ LackedBehind (calls_of_all (opening_of setup)) held left
   pub faults : left.faults ≡ held.faults
   pub stops : left.stops ≡ held.stops
   pub armed : left.tally.armed ≡ None

@@ -20,11 +20,16 @@ pub record IsSettled (file : File) : Type 0 where
 abbrev pub AllSettled : Files → Type 0
 AllSettled files = (name : List ℕ) (file : File) → get files name ≡ Some file → IsSettled file
 
--- of these calls some from the front were done, and the next one failed, or changed nothing for want of memory, or the disk stopped in it
+-- of these calls so many from the front were done, and the next one failed, or changed nothing for want of memory, or the disk stopped in it
+abbrev pub BrokeAfter : List DeviceCall → ℕ → Files → Files → Type 0
+BrokeAfter calls count old new =
+    FailsAfter calls count (Some old) (Some new)
+    ⊎ LacksMemoryAfter calls count (Some old) (Some new)
+    ⊎ StopsAfter calls count (Some old) (Some new)
+
+-- and so many were some
 abbrev pub BrokeOff : List DeviceCall → Files → Files → Type 0
-BrokeOff calls old new =
-    (count : ℕ)
-    × (FailsAfter calls count (Some old) (Some new) ⊎ LacksMemoryAfter calls count (Some old) (Some new) ⊎ StopsAfter calls count (Some old) (Some new))
+BrokeOff calls old new = (count : ℕ) × BrokeAfter calls count old new
 
 -- so many attempts at these calls broke off, each on the files that the one before left
 abbrev pub Attempted : List DeviceCall → ℕ → Files → Files → Type 0

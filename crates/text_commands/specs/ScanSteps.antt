@@ -50,11 +50,16 @@ SourceEnds query pieces wanted source reached text = (bytes : List ℕ) × Reads
 abbrev pub SourceLacks : {S : Type 0} → RecordQuery → List Piece → (wanted : List ℕ) → Edge S (List ℕ) → List ℕ → Type 0
 SourceLacks query pieces wanted source text = (text ≡ []) ⊎ SourceEnds query pieces wanted source None text
 
+-- the text serves, and what comes of the source
+abbrev pub PartsEnd : {S : Type 0} → RecordQuery → (text wanted : List ℕ) → Edge S (List ℕ) → Reaching
+PartsEnd query text wanted source reached printed =
+    (pieces : List Piece) × IsParted query text pieces × SourceEnds query pieces wanted source reached printed
+
 -- of a text and a source
 abbrev pub ScanEnds : {S : Type 0} → RecordQuery → (text wanted : List ℕ) → Edge S (List ℕ) → Reaching
 ScanEnds query text wanted source (Some ScriptRefused) printed = IsUntouched source × TextFails query.kind text printed
 ScanEnds query text wanted source (Some Inseparable) printed = IsUntouched source × CannotPart query text printed
-ScanEnds query text wanted source reached printed = (pieces : List Piece) × IsParted query text pieces × SourceEnds query pieces wanted source reached printed
+ScanEnds query text wanted source reached printed = PartsEnd query text wanted source reached printed
 
 -- memory was wanting before it was known whether the text serves, or behind that
 abbrev pub ScanLacks : {S : Type 0} → RecordQuery → (text wanted : List ℕ) → Edge S (List ℕ) → List ℕ → Type 0
