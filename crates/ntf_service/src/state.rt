@@ -120,7 +120,8 @@ impl NtfState {
     }
 
     /// Begins a client's use of the service. `NoResources` exactly where it uses the service
-    /// already. On an error, and with another answer than ok, nothing changes.
+    /// already. On an error, which is want of memory, and with another answer than ok, nothing
+    /// changes; an error comes only where the answer would be ok.
     pub fn init(&mut self, client: u16) -> Result<Status, AllocError>
         ensures status { IfOk result (λ status. status ≡ begin_answer client self.old.table) }
         ensures ok { IfOk result (λ status. status ≡ Status.Ok →
@@ -128,6 +129,7 @@ impl NtfState {
         ensures refused { IfOk result
             (λ status. status ≢ Status.Ok → self.new.table ≡ self.old.table) }
         ensures err { OnErr result (self.new.table ≡ self.old.table) }
+        ensures memory { OnErr result (begin_answer client self.old.table ≡ Status.Ok) }
     {
         if self.users.contains(client) {
             return Ok(Status::NoResources);
@@ -176,8 +178,10 @@ impl NtfState {
     /// Makes a subscription of a client, under its key and an id. The answer is that of the first
     /// of these that holds: `BadHandle`, the client does not use the service; `InvalidParam`, the
     /// filters may not be used; `Exist`, the client has a subscription of that id; `NoResources`,
-    /// 64 subscriptions last. Where none holds the subscription is made, and the answer is ok. On
-    /// an error, and with another answer, nothing changes.
+    /// 64 subscriptions last. Where none holds the subscription is made, with an empty queue, and
+    /// the answer is ok. On an error, which is want of memory, and with another answer, nothing
+    /// changes; an error comes only where the answer would be ok. The key is above those of the
+    /// client's subscriptions that last.
     pub fn subscribe(
         &mut self,
         alloc: Global,
@@ -194,6 +198,8 @@ impl NtfState {
         ensures refused { IfOk result
             (λ status. status ≢ Status.Ok → self.new.table ≡ self.old.table) }
         ensures err { OnErr result (self.new.table ≡ self.old.table) }
+        ensures memory { OnErr result
+            (subscribe_answer client id filters.now self.old.table ≡ Status.Ok) }
     {
         let status = self.subscribe_status(client, id, filters);
         if status != Status::Ok {
