@@ -19,9 +19,10 @@ use mirror::{Node, Role, let_heard_go};
 use std::alloc::{AllocError, Global};
 use wire::{Message, let_messages_go};
 
-/// The active server hears a message of this place in the net. The answer to it is posted, its line is put where it was ignored, and an entry
-/// that waits for nobody is committed. What goes to the servers beside it comes back. Where 4,000,000,000 entries were accepted it answers as
-/// if memory ran out; on an error the history stays, and nothing but an answer was posted.
+/// The active server hears a message of this place in the net, at a moment from 0 to 9,000,000,000,000,000,000 (nanoseconds since 1970 in UTC).
+/// A request or a receipt is that of a client from 1 to 4,096, and a request's number is at least 1. The answer to it is posted, its line is put
+/// where it was ignored, and an entry that waits for nobody is committed. What goes to the servers beside it comes back. Where 4,000,000,000
+/// entries were accepted it answers as if memory ran out; on an error the history stays, and nothing but an answer was posted.
 pub fn hear(
     alloc: Global,
     active: &mut Node,
@@ -63,8 +64,8 @@ fn is_acknowledged(role: Role, message: &Message) -> bool
     }
 }
 
-/// The active server hears a message of a server beside it. Where 4,000,000,000 entries were accepted it answers as if memory ran out; on an
-/// error it stays as it was.
+/// The active server hears a message of a server beside it, at any moment; what it answers to that is let go. Where 4,000,000,000 entries were
+/// accepted it answers as if memory ran out; on an error it stays as it was.
 pub fn confirm(
     alloc: Global,
     active: &mut Node,

@@ -27,7 +27,7 @@ pub fn send_all(
     }
 }
 
-/// Takes the first message, if there is one.
+/// Takes the first message, if there is one. It takes no memory.
 pub fn take_first(alloc: Global, list: &mut Seq<Message>) -> Option<Message>
     ensures { TakesFirst result list.old list.new }
 {

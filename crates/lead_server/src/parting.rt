@@ -7,8 +7,8 @@ use event_text::put_entry;
 use mirror::Node;
 use std::alloc::{AllocError, Global};
 
-/// Adds the line of the entry that waits and is not in the history, which has so many. Answers whether there is one. Where memory runs out
-/// nothing is added.
+/// Adds the line of the entry that waits and is not in the history, which has so many entries. Answers whether there is one. Where memory runs
+/// out nothing is added.
 pub fn put_waiting(
     alloc: Global,
     lines: &mut Vec<Seq<u8>>,

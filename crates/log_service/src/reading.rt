@@ -100,7 +100,8 @@ impl LogState {
         streams::stream_of(self.streams.as_slice(), name).is_some()
     }
 
-    /// What stands of a living stream, by its place in order of creation, from 0.
+    /// What stands of a living stream, by its place in order of creation, from 0. `None` exactly where no more than so
+    /// many live, here and in the two below.
     pub fn stream_at(&self, i: u32) -> Option<&StreamState>
         ensures { option_copied result
             ≡ option_map (λ (stream : OpenStream). stream.state)

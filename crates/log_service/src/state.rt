@@ -56,6 +56,10 @@ fn is_application(name: &StreamName) -> bool
 
 /// The last stamp, the clients that use the service, and the living streams in order of creation, each with the
 /// clients that have it open and its mark. Contracts see these, and for how many streams more there is room.
+///
+/// Moments of calls (`now`) are nanoseconds since the first second of 1970 in UTC, from 0 to 9,000,000,000,000,000,000.
+/// Stamps are seconds since then; the last one is at most 19,999,999,000 as a call comes. Every error is want of memory,
+/// and leaves the streams, users and marks as they were.
 pub struct LogState {
     pub(crate) last: i64,
     pub(crate) users: ClientSet,
@@ -89,7 +93,8 @@ impl Model for LogState {
 
 impl LogState {
     /// The state of a service that nobody has used, and what was done to streams: the alarm, the notification and
-    /// the system stream were made in this order, of these attributes, the first at the second of the start.
+    /// the system stream were made in this order, of these attributes, the first at the second of the start. The
+    /// attributes pass, and no two streams have one path and file. On an error there is no state.
     pub fn new(
         alloc: Global,
         start: i64,
@@ -109,8 +114,9 @@ impl LogState {
         Ok((state, events))
     }
 
-    /// The state with these parts: the last stamp, the clients that use the service, the living streams in order
-    /// of creation, and for each of them the clients that have it open, and its mark. On an error there is no state.
+    /// The state with these parts: the last stamp, from 0 on, the clients that use the service, rising, the living
+    /// streams in order of creation, at most three well-known ones and 64 of applications, and for each of them the
+    /// clients that have it open, rising, and its mark. On an error there is no state.
     pub fn rebuild(
         alloc: Global,
         last_stamp: i64,
@@ -194,9 +200,9 @@ impl LogState {
         Ok(LogPlan::accepted(Seq::new(alloc), self.last, Doing::Begin { users }))
     }
 
-    /// Begins a client's use of the service (the library call for initialisation). `NoResources` exactly where it
-    /// uses the service already. On an error, and with another answer than ok, nothing changes; an error comes only
-    /// where the answer would be ok.
+    /// Begins a client's use of the service (the library call for initialisation), at any moment. `NoResources`
+    /// exactly where it uses the service already. On an error, and with another answer than ok, nothing changes; an
+    /// error comes only where the answer would be ok.
     pub fn init(&mut self, alloc: Global, client: u16, _now: i64) -> Result<Step, AllocError>
         ensures status { IfOk result (λ step. step.status ≡ begin_status self.old.table client) }
         ensures told { IfOk result (Tells false None) }
@@ -629,7 +635,8 @@ impl LogState {
         Ok(plan.marked(mark))
     }
 
-    /// Writes a record to a stream. An unknown time stands for this moment. The answer is that of the first of
+    /// Writes a record to a stream of which fewer than 4,294,967,294 records were numbered. Its time is in
+    /// nanoseconds, and an unknown one stands for this moment. The answer is that of the first of
     /// these that holds: `BadHandle`, the client does not use the service or does not have the stream open;
     /// `BadFlags`, flags are above 1; `InvalidParam`, the record may not be written to a stream of the kind; ok
     /// and filtered, the stream's mask does not let the record's severity pass; `NoSpace`, the record does not fit
@@ -711,7 +718,8 @@ impl LogState {
         Ok(plan)
     }
 
-    /// Stores the record of a notification in the stream of its kind. `NoSpace` exactly where it does not fit.
+    /// Stores the record of a notification in the stream of its kind, of which fewer than 4,294,967,294 records were
+    /// numbered. `NoSpace` exactly where it does not fit.
     /// On an error, and with another answer than ok, nothing changes; an error comes only where the answer would be ok.
     pub fn store(
         &mut self,

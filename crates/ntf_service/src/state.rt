@@ -104,7 +104,7 @@ fn has_item(kept: &Subscription, number: u32) -> bool
 
 impl NtfState {
     /// The state of a service that nobody has used, whose subscriptions have queues of this
-    /// capacity. It takes no memory.
+    /// capacity, from 1 to 256 notifications. It takes no memory.
     pub fn new(alloc: Global, cap: u32) -> NtfState
         requires { IsCapacity cap }
         ensures { result.table ≡ empty_table cap }
@@ -138,8 +138,9 @@ impl NtfState {
         Ok(Status::Ok)
     }
 
-    /// Ends a client's use of the service and all its subscriptions. `BadHandle` exactly where it
-    /// does not use the service; then nothing changes. It takes no memory.
+    /// Ends a client's use of the service and all its subscriptions, with what their queues hold.
+    /// `BadHandle` exactly where it does not use the service; then nothing changes. It takes no
+    /// memory.
     pub fn fini(&mut self, client: u16) -> Status
         ensures status { result ≡ end_answer client self.old.table }
         ensures ok { result ≡ Status.Ok → self.new.table ≡ after_end client self.old.table }
@@ -212,9 +213,10 @@ impl NtfState {
         Ok(Status::Ok)
     }
 
-    /// Takes a client's subscription of an id back. The answer is `BadHandle` where the client does
-    /// not use the service, else `NotExist` where it has no subscription of that id; then nothing
-    /// changes. It takes no memory.
+    /// Takes a client's subscription of an id back, with what its queue holds. The answer is
+    /// `BadHandle` where the client does not use the service, else `NotExist` where it has no
+    /// subscription of that id, and else ok. With another answer than ok nothing changes. It takes
+    /// no memory.
     pub fn unsubscribe(&mut self, client: u16, id: u32) -> Status
         ensures status { result ≡ unsubscribe_answer client id self.old.table }
         ensures ok { result ≡ Status.Ok →
@@ -259,7 +261,7 @@ impl NtfState {
     }
 
     /// Plans `send` of a notification that is lent and has the next id already: of it only the shares of subscriptions are
-    /// copied. Beside that it is `plan_send`.
+    /// copied. Beside that it is `plan_send`. An error is want of memory; the state stays as it is then too.
     pub fn plan_lent(
         &mut self,
         alloc: Global,
@@ -277,7 +279,8 @@ impl NtfState {
     }
 
     /// Plans `send`: what it gives and makes of the state, with a share of the notification for each subscription that
-    /// asks for it, and makes room for these. The state stays as it is; an error is want of memory.
+    /// asks for it, and makes room for these. Which id the notification has does not matter. The state stays as it is; an
+    /// error is want of memory.
     pub fn plan_send(
         &mut self,
         alloc: Global,
@@ -295,8 +298,8 @@ impl NtfState {
         Ok(plan)
     }
 
-    /// Makes a send that was planned for the state as it is, into room that was made for it. The answer is its id. It
-    /// takes no memory.
+    /// Makes a send that was planned for the state as it is, into room that was made for it. The answer is its id, from 1
+    /// on. It takes no memory.
     pub fn commit_send(&mut self, plan: SendPlan) -> u64
         requires can { CanCommitSend self.old.table plan }
         requires room { 1 ≤ self.old.spare }
@@ -310,8 +313,8 @@ impl NtfState {
     }
 
     /// Sends a notification: gives it the next id, which is the answer, and offers it to each
-    /// subscription that asks for it, and to no other. On an error nothing changes, and no id is
-    /// used up.
+    /// subscription that asks for it, and to no other. Ids are 1, 2, 3 and so on, up to
+    /// 4,294,967,294. On an error, which is want of memory, nothing changes, and no id is used up.
     pub fn send(&mut self, alloc: Global, notification: Notification) -> Result<u64, AllocError>
         requires { CanSendMore self.old.table }
         ensures id { IfOk result (λ id. id ≡ self.old.table.last_id + 1) }
@@ -324,15 +327,15 @@ impl NtfState {
         Ok(self.commit_send(plan))
     }
 
-    /// Whether a notification can be sent: an id is left for it, and a number for the next item of
-    /// each subscription.
+    /// Whether a notification can be sent: an id is left for it, of which there are 4,294,967,294, and
+    /// a number for the next item of each subscription, of which each has as many.
     pub fn can_send(&self) -> bool
         ensures { IsTrue result ↔ CanSendMore self.now.table }
     {
         self.last_id < 4_294_967_294 && have_numbers_left(self.subs.as_slice())
     }
 
-    /// Whether a key is above those of all subscriptions of a client.
+    /// Whether a key is above those of all subscriptions of a client that last.
     pub fn is_key_above(&self, client: u16, key: u32) -> bool
         ensures { IsTrue result ↔ IsKeyAbove client key self.now.table.subs }
     {
@@ -350,7 +353,8 @@ impl NtfState {
         }
     }
 
-    /// Takes a new receipt. It takes no memory.
+    /// Takes a new receipt, of all items of a subscription up to this number: they are let go, and its
+    /// queue has their places free. It takes no memory.
     pub fn acked(&mut self, client: u16, key: u32, through: u32)
         requires new { IsTrue (is_new_in self.old.table client key through) }
         requires numbers { HaveNumbersLeft self.old.table.subs }
@@ -381,7 +385,7 @@ impl NtfState {
         self.last_id
     }
 
-    /// How many subscriptions last.
+    /// How many subscriptions last, at most 64.
     pub fn count(&self) -> u32
         ensures count { result ≡ length self.now.table.subs }
         ensures sound { IsSoundTable self.now.table }
@@ -389,15 +393,17 @@ impl NtfState {
         self.subs.len() as u32
     }
 
-    /// The subscription at a place, from 0, in order of client, then key. None exactly where fewer
-    /// last.
+    /// The subscription at a place, from 0, in order of client, then key. `None` exactly where no more
+    /// than so many last.
     pub fn sub_at(&self, place: u32) -> Option<&Subscription>
         ensures { option_map told (option_copied result) ≡ slice_get self.now.table.subs place }
     {
         kept_at(self.subs.as_slice(), place as usize)
     }
 
-    /// The state with these parts. It takes no memory.
+    /// The state with these parts: the capacity of queues, the last id that was given, the clients that
+    /// use the service, and the subscriptions that last, in order of client, then key. There are at
+    /// most 64, each with a queue of that capacity. It takes no memory.
     pub fn rebuild(cap: u32, last_id: u64, users: Vec<u16>, subs: Vec<Subscription>) -> NtfState
         requires { IsSoundTable (table_with cap users.items last_id (all_told subs.items)) }
         ensures { result.table ≡ table_with cap users.items last_id (all_told subs.items) }
