@@ -1,5 +1,5 @@
 //! A server of a pair: one is active, and the other follows it and takes over where it goes down.
-ghost use Rattle.std.specs.Prelude.{◌≡◌, ◌<◌, ◌↔◌, ℤ, IsTrue, IsSome, None, List, [], ◌∷◌, is_some, option_copied, IfOk, IfSome, OnOk, OnErr, IsErrOf};
+ghost use Rattle.std.specs.Prelude.{◌≡◌, ◌<◌, ◌↔◌, ℤ, IsTrue, IsSome, None, List, [], ◌∷◌, is_some, option_copied, IfOk, IfSome, IsOk, OnOk, OnErr, IsErrOf};
 ghost use Rattle.ais_values.specs.Causes.{RoseExactlyOn};
 ghost use Rattle.disk_model.specs.DeviceCalls.{Performs};
 ghost use Rattle.disk_model.specs.declared.answers.DiskAnswer.{DiskAnswer};
@@ -519,9 +519,10 @@ impl Node {
 
     /// Whether the server can receive what a journal or the active server tells it: it is joining and the message is a fit value
     /// of the service, or it is standby and the message is the entry of the next number, which can be applied. It takes no
-    /// memory.
+    /// memory, so there is never an error.
     pub fn admits(&self, alloc: Global, message: &Message) -> Result<bool, AllocError>
-        ensures { IfOk result (λ answer. IsTrue answer ↔ Admits message.now self.now) }
+        ensures answer { IfOk result (λ answer. IsTrue answer ↔ Admits message.now self.now) }
+        ensures ok { IsOk result }
     {
         let _ = alloc;
         match message {
