@@ -20,6 +20,7 @@ use Rattle.lone_server.specs.declared.lone.Lone.{Lone}
 use Rattle.cold_servers.specs.declared.solo.Solo.{Solo}
 use Rattle.lone_server.specs.Joining.{JoinBreaks, Joins, JoinsOver, left_by}
 use Rattle.lone_server.specs.Working.{HearsBack, WorkBreaks, Works, WorksOver}
+use Rattle.lone_server.proofs.JoinSteps.{lacks-armed}
 use Rattle.cold_servers.specs.ColdKit.{cold_kit}
 use Rattle.cold_servers.specs.ColdLaws.{cold_laws}
 use Rattle.cold_servers.specs.ColdSeen.{ColdSeen, Outlives}
@@ -68,7 +69,7 @@ join-comes false old servers history before after held left up some joins over c
 pub join-off : (answer : DiskAnswer) (old : Cluster Solo) (servers : Lone) (history : Pushed) (before after : List (List ℕ)) (held left : ColdSeen) → AllUp old → JoinBreaks answer old.servers.lone servers old.history.entries history.entries before after → JoinsOver old.servers.lone.link old.servers.lone.journal.end old.history.entries history.entries (Err answer) held.disk left.disk held.journal left.journal → RoseExactlyOn {T = Bool} held.journal.faults left.journal.faults (Err answer) Failed → RoseExactlyOn {T = Bool} held.journal.stops left.journal.stops (Err answer) Stopped
     → ComesOff cold_kit any_state (EndsStep cold_kit) answer old (record old { servers = record { lone = servers }; history = history }) before after held left
 join-off Memory old servers history before after held left up breaks over cause stop = λ setup state good shows count so.
-    joins-lack setup state old servers history held left good shows (up setup state good shows) breaks over (rose-by {T = Bool} Memory held.journal left.journal cause stop)
+    joins-lack setup state old servers history held left good shows (up setup state good shows) (lacks-armed old.servers.lone servers breaks) over (rose-by {T = Bool} Memory held.journal left.journal cause stop)
 join-off Failed old servers history before after held left up breaks over cause stop = λ setup state good shows count so.
     joins-end setup state old servers history before after held left good shows count (up setup state good shows) breaks.0 breaks.1 breaks.2 over (rose-by {T = Bool} Failed held.journal left.journal cause stop)
 join-off Stopped old servers history before after held left up breaks over cause stop = λ setup state good shows count so.

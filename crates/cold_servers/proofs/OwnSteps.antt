@@ -33,6 +33,7 @@ use Rattle.cold_cluster.specs.Lines.{stops_work}
 use Rattle.lone_server.specs.declared.lone.Lone.{Lone}
 use Rattle.lone_server.specs.Joining.{JoinBreaks, Joins, JoinsOne, JoinsOver}
 use Rattle.lone_server.specs.Working.{WorkBreaks, Works, WorksOver}
+use Rattle.lone_server.proofs.JoinSteps.{lacks-armed}
 use Rattle.cold_servers.specs.declared.solo.Solo.{Solo}
 use Rattle.cold_servers.specs.ColdKit.{cold_kit, cold_script}
 use Rattle.cold_servers.specs.ColdNodes.{OwnBy}
@@ -135,7 +136,7 @@ module _ (old : Cluster Solo) (servers : Lone) (history : Pushed) (before after 
   mirror-off : (answer : DiskAnswer) → JoinBreaks answer old.servers.lone servers old.history.entries history.entries before after → JoinOver (Err answer) → RoseExactlyOn {T = Bool} held.journal.faults left.journal.faults (Err answer) Failed → RoseExactlyOn {T = Bool} held.journal.stops left.journal.stops (Err answer) Stopped
       → Off answer line.Mirror old joined before after held left
   mirror-off Memory breaks over cause stop = λ setup state good shows count.
-      joins-lack setup state old servers history held left good shows (up setup state good shows) breaks over (rose-by {T = Bool} Memory held.journal left.journal cause stop)
+      joins-lack setup state old servers history held left good shows (up setup state good shows) (lacks-armed old.servers.lone servers breaks) over (rose-by {T = Bool} Memory held.journal left.journal cause stop)
   mirror-off Failed breaks over cause stop = λ setup state good shows count.
       let is = up setup state good shows in
       let waits = waiting-entry setup state old history Failed held.disk left.disk held.journal left.journal tt shows is over in

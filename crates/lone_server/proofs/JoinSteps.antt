@@ -1,6 +1,6 @@
 -- The entry that is first on the way joins the journal, by how the append ended.
 use Rattle.std.proofs.Common.{◌≡◌, ◌↔◌, inl, inr, ℕ, Bool, true, false, IsTrue, ◌==◌, Option, Some, None, List, [], ◌∷◌, length, refl, ap, sym, subst, ◌∙◌}
-use Rattle.std.specs.Prelude.{Result, Ok, Err, OnErr, OnOk}
+use Rattle.std.specs.Prelude.{Ok, Err}
 use Rattle.std.proofs.lemmas.Bool.Decides.{eqb_tells}
 use Rattle.disk_model.specs.Seen.{DiskSeen}
 use Rattle.disk_model.specs.declared.answers.DiskAnswer.TheVariants.{Memory}
@@ -11,16 +11,11 @@ use Rattle.lead_server.specs.Told.{Commits}
 use Rattle.lone_server.specs.declared.lone.Lone.{Lone}
 use Rattle.lone_server.specs.Appends.{AppendsCalls, JoinsFirst, LosesFirst, confirmed_by}
 use Rattle.lone_server.specs.Falls.{downed}
-use Rattle.lone_server.specs.Joining.{CommitsJoined, CommitsOrNot, FirstOrNot, JoinsOne, JoinsOver}
+use Rattle.lone_server.specs.Joining.{CommitsJoined, CommitsOrNot, FirstOrNot, JoinLacks, JoinsOne, JoinsOver}
 
 pub commits-one : (number : ℕ) (entry : Entry) (old new : Lone) (past reserved entries : List Entry) (before after : List (List ℕ)) → reserved ≡ past → Commits (Some entry) reserved entries before after → new ≡ confirmed_by number old → CommitsJoined (Some (number, entry)) old new past entries before after
 commits-one number entry old new past reserved entries before after same commits is =
     (is, subst (λ (p : List Entry). Commits (Some entry) p entries before after) same commits)
-
--- that it joined is on the way back, or all stays
-pub back-armed : {T E : Type 0} (result : Result T E) (number : ℕ) (old new : Lone) → OnOk result (new ≡ confirmed_by number old) → OnErr result (new ≡ old) → new.armed ≡ old.armed
-back-armed (Ok x) number old new done stays = ap (λ (servers : Lone). servers.armed) done
-back-armed (Err error) number old new done stays = ap (λ (servers : Lone). servers.armed) stays
 
 or-same : (found : Option (ℕ × Entry)) (past entries : List Entry) → entries ≡ past → CommitsOrNot found past entries
 or-same None past entries same = same
@@ -54,6 +49,12 @@ joins-one message old mid new past entries before put after joins same commits =
 -- the server goes down whose message was lost
 pub downs : (old mid new : Lone) → LosesFirst old mid → new ≡ downed mid → new ≡ downed old
 downs old mid new loses is = is ∙ ap downed loses.is
+
+-- where memory ran out the server is armed as it was
+pub lacks-armed : (old new : Lone) → JoinLacks old new → new.armed ≡ old.armed
+lacks-armed old new (inl same) = ap (λ (servers : Lone). servers.armed) same
+lacks-armed old new (inr (inl loses)) = ap (λ (servers : Lone). servers.armed) loses.is
+lacks-armed old new (inr (inr joins)) = ap (λ (servers : Lone). servers.armed) joins.1.is
 
 -- whether nothing is on the way
 pub clear-is : (list : List Message) (answer : Bool) → answer ≡ (length list == 0) → IsTrue answer ↔ (list ≡ [])

@@ -14,7 +14,7 @@ use Rattle.lead_server.specs.Told.{Commits}
 use Rattle.journal_found.specs.Found.{CanJoin}
 use Rattle.journal_start.specs.Journals.{pushed}
 use Rattle.lone_server.specs.declared.lone.Lone.{Lone}
-use Rattle.lone_server.specs.Appends.{AppendsCalls, FirstCanJoin, confirmed_by}
+use Rattle.lone_server.specs.Appends.{AppendsCalls, FirstCanJoin, JoinsFirst, LosesFirst, confirmed_by}
 use Rattle.lone_server.specs.Falls.{downed, unarmed}
 
 -- the entry that joined is committed, and that it joined is on the way back; a message without one, which is never on the way, changes
@@ -59,10 +59,13 @@ abbrev pub KeepsOrNot : {T : Type 0} → Result T DiskAnswer → List Message �
 KeepsOrNot (Ok done) link past entries = FirstOrNot link past entries
 KeepsOrNot (Err answer) link past entries = entries ≡ past
 
--- what is left where it broke off, by the answer: where the journal's disk stopped or had a fault the server is down, which is told; where
--- memory ran out it is armed as it was
+-- memory ran out: nothing was done, or the message is lost, or it joined and is not on the way back
+abbrev pub JoinLacks : Lone → Lone → Type 0
+JoinLacks old new = (new ≡ old) ⊎ LosesFirst old new ⊎ ((message : Message) × JoinsFirst message old new)
+
+-- what is left where it broke off, by the answer: where the journal's disk stopped or had a fault the server is down, which is told
 abbrev pub JoinBreaks : DiskAnswer → Lone → Lone → List Entry → List Entry → List (List ℕ) → List (List ℕ) → Type 0
-JoinBreaks Memory old new past entries before after = new.armed ≡ old.armed
+JoinBreaks Memory old new past entries before after = JoinLacks old new
 JoinBreaks _ old new past entries before after =
     (new ≡ downed old) × (entries ≡ past) × (after ≡ before ++ server_line A Down ∷ [])
 

@@ -26,7 +26,8 @@ pub fn is_clear(messages: &Seq<Message>) -> bool
     messages.as_slice().is_empty()
 }
 
-/// An entry is committed, and that it joined the journal under this number is on the way back.
+/// An entry is committed, and that it joined the journal under this number is on the way back. Where memory runs out the server stays, and the
+/// entry is committed or not.
 fn commit_one(
     alloc: Global,
     servers: &mut Lone,
@@ -39,7 +40,7 @@ fn commit_one(
         history.old.entries history.new.entries lines.old.items lines.new.items) }
     ensures err { OnErr result (CommitsOrNot (Some (number, entry)) history.old.entries
         history.new.entries) }
-    ensures armed { servers.new.armed ≡ servers.old.armed }
+    ensures servers { OnErr result (servers.new ≡ servers.old) }
 {
     match history.reserve() {
         Ok(()) => {}
@@ -54,7 +55,8 @@ fn commit_one(
     }
 }
 
-/// The entry of a message that joined the journal is committed, if it brings one, and that it joined is on the way back.
+/// The entry of a message that joined the journal is committed, if it brings one, and that it joined is on the way back. Where memory runs out
+/// the server stays, and the entry is committed or not.
 fn commit_joined(
     alloc: Global,
     servers: &mut Lone,
@@ -66,7 +68,7 @@ fn commit_joined(
         history.old.entries history.new.entries lines.old.items lines.new.items) }
     ensures err { OnErr result (CommitsOrNot (entry_in message) history.old.entries
         history.new.entries) }
-    ensures armed { servers.new.armed ≡ servers.old.armed }
+    ensures servers { OnErr result (servers.new ≡ servers.old) }
 {
     match mirrored(Some(message)) {
         Some((number, entry)) => commit_one(alloc, servers, history, lines, number, entry),
@@ -78,7 +80,8 @@ fn commit_joined(
 ///
 /// The journal's disk makes the four calls of an append, as `append_first` says. Where it stops or has a fault in that, the server goes down,
 /// neither disk is armed any more, and the line that tells so is put; it is put first and taken back where it is not so, so that it is not
-/// lost for want of memory. `Memory` comes where memory ran out; the entry may have joined the journal then, and be committed or not.
+/// lost for want of memory. `Memory` comes where memory ran out: nothing was done, or the message is lost and not in the journal, or it joined
+/// the journal, is not on the way back, and its entry is committed or not.
 pub fn join_journal<D: SharedDisk, J: SharedDisk>(
     alloc: Global,
     servers: &mut Lone,

@@ -3,7 +3,7 @@ use Rattle.std.proofs.lemmas.Result.{on_ok_weaker}
 use Rattle.calls.specs.History.{Pushed}
 use Rattle.calls.specs.declared.entry.Entry.{Entry}
 use Rattle.cluster_clients.proofs.DispatchSteps.{on-err}
-use Rattle.lone_server.proofs.JoinSteps.{back-armed, commits-one}
+use Rattle.lone_server.proofs.JoinSteps.{commits-one}
 use Rattle.lone_server.proofs.joining.commit_one.Goals as goal
 
 pub returns-in-Err-clause-err : goal.returns-in-Err-clause-err
@@ -25,6 +25,5 @@ pub returns-in-Err-commit-clause-err : goal.returns-in-Err-commit-clause-err
 returns-in-Err-commit-clause-err c =
     inl (ap (λ (history : Pushed). history.entries) c.in-Err-commit.ensures.err ∙ c.in-Ok.ensures.entries)
 
-pub returns-in-Ok-commit-clause-armed : goal.returns-in-Ok-commit-clause-armed
-returns-in-Ok-commit-clause-armed c =
-    back-armed c.put_back.result c.args.number c.args.servers.now c.put_back.new.servers c.put_back.ensures.ok c.put_back.ensures.err
+pub returns-in-Ok-commit-clause-servers : goal.returns-in-Ok-commit-clause-servers
+returns-in-Ok-commit-clause-servers c = c.put_back.ensures.err

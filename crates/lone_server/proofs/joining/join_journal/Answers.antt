@@ -1,9 +1,8 @@
-use Rattle.std.proofs.Common.{◌≡◌, [], Ok, Err, Some, refl, ap, length, subst, sym, ◌∙◌}
+use Rattle.std.proofs.Common.{◌≡◌, inl, inr, [], Ok, Err, Some, refl, ap, length, subst, sym, ◌∙◌}
 use Rattle.disk_model.specs.Seen.{DiskSeen}
 use Rattle.disk_model.specs.declared.answers.DiskAnswer.TheVariants.{Memory, Failed, Stopped}
-use Rattle.lone_server.specs.declared.lone.Lone.{Lone}
 use Rattle.wire.specs.Mirrored.{entry_in}
-use Rattle.lone_server.specs.Appends.{FirstCanJoin}
+use Rattle.lone_server.specs.Appends.{FirstCanJoin, JoinsFirst}
 use Rattle.lone_server.proofs.JoinSteps.{commits-or, downs, empty-over, first-or, joins-one, lacks-over}
 use Rattle.lone_server.proofs.RoseSteps.{none-left, rose-done, rose-lacks, rose-not, rose-still, rose-told}
 use Rattle.lone_server.proofs.joining.join_journal.Goals as goal
@@ -186,11 +185,21 @@ pub returns-in-Err-Stopped-clause-stop : goal.returns-in-Err-Stopped-clause-stop
 returns-in-Err-Stopped-clause-stop g c =
     rose-told _ _ _ _ Stopped Stopped (ap Err c.in-Err-Stopped.field-0-is) (ap (λ (seen : DiskSeen). seen.stops) c.fall-in-Err-Stopped.ensures.beside) c.in-Err-Stopped.ensures.stop
 
--- where memory ran out the server is armed as it was
+-- memory ran out: nothing was done, or the message is lost, or it joined
+pub returns-in-Err-clause-err : goal.returns-in-Err-clause-err
+returns-in-Err-clause-err g c = inl refl
+
+pub returns-in-Err-Memory-clause-err : goal.returns-in-Err-Memory-clause-err
+returns-in-Err-Memory-clause-err g c = inr (inl c.in-Err-Memory.ensures.err)
+
 pub returns-in-Err-commit_joined-clause-err : goal.returns-in-Err-commit_joined-clause-err
 returns-in-Err-commit_joined-clause-err g c =
     let joins = rw c.in-Ok-Some.field-0-is at c.in-Ok-Some.ensures.ok in
-    c.commit_joined.ensures.armed ∙ ap (λ (servers : Lone). servers.armed) joins.is
-
-pub returns-in-Err-Memory-clause-err : goal.returns-in-Err-Memory-clause-err
-returns-in-Err-Memory-clause-err g c = ap (λ (servers : Lone). servers.armed) c.in-Err-Memory.ensures.err.is
+    let one : JoinsFirst c.in-Ok-Some.message c.args.servers.now c.commit_joined.new.servers = record {
+      rest = joins.rest;
+      first = joins.first;
+      is = c.in-Err-commit_joined.ensures.servers ∙ joins.is;
+      can = joins.can;
+    }
+    in
+    inr (inr (c.in-Ok-Some.message, one))
