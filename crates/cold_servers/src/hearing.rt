@@ -32,7 +32,7 @@ fn send_mirrored(
 }
 
 /// Delivers a request or a receipt of this place in the net to the server, which is up. Where 4,000,000,000 entries were accepted it answers
-/// as if memory ran out.
+/// as if memory ran out. On an error some of it may be done.
 pub fn hear(
     alloc: Global,
     world: &mut Cluster<Solo>,
@@ -65,7 +65,8 @@ pub fn hear(
     }
 }
 
-/// Posts all items without receipt, by client, key and number, and answers with them. The server is up, and nothing is in hand.
+/// Posts all items without receipt, by client, key and number, and answers with them. The server is up, and nothing is in hand. Where memory
+/// runs out some were posted, from the first on.
 pub fn push(
     alloc: Global,
     world: &mut Cluster<Solo>,

@@ -139,7 +139,8 @@ fn join<const N: usize>(
     }
 }
 
-/// `restart S`: a server that is down joins. The event is refused where it is not down, and where it is none of the servers.
+/// `restart S`: a server that is down joins. The event is refused where it is not down, and where it is none of the servers. `Err` comes where
+/// memory ran out: some of it may be done.
 pub fn restart<const N: usize>(
     alloc: Global,
     world: &mut Cluster<Group<N>>,

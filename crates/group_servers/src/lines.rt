@@ -15,7 +15,8 @@ use cluster_rounds::Cluster;
 use script_lines::Line;
 use std::alloc::{AllocError, Global};
 
-/// `mirror`: the first message on the way to a server is delivered. The line is refused where there is none.
+/// `mirror`: the first message on the way to a server is delivered. The line is refused where there is none. On an error some of it was done:
+/// where memory ran out, or where 4,000,000,000 entries were accepted.
 pub fn mirror_line<const N: usize>(
     alloc: Global,
     world: &mut Cluster<Group<N>>,
@@ -39,7 +40,8 @@ pub fn mirror_line<const N: usize>(
     }
 }
 
-/// `ack`: the first message on the way back from a server is delivered. The line is refused where there is none.
+/// `ack`: the first message on the way back from a server is delivered. The line is refused where there is none. On an error some of it was
+/// done: where memory ran out, or where 4,000,000,000 entries were accepted.
 pub fn ack_line<const N: usize>(
     alloc: Global,
     world: &mut Cluster<Group<N>>,

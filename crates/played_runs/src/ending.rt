@@ -69,7 +69,7 @@ pub struct End {
     pub text: Vec<u8>,
 }
 
-/// An end with this text.
+/// An end with this text. An error is want of memory.
 pub fn end_with(alloc: Global, status: Status8, text: &[u8]) -> Result<End, AllocError>
     ensures status { IfOk result (λ end. end.status ≡ status) }
     ensures text { IfOk result (λ end. end.text.items ≡ text.now) }
@@ -78,7 +78,7 @@ pub fn end_with(alloc: Global, status: Status8, text: &[u8]) -> Result<End, Allo
     Ok(End { status, text })
 }
 
-/// The end where the disk held a file of this name.
+/// The end where the disk held a file of this name. An error is want of memory.
 pub fn root_holds(alloc: Global, name: &[u8]) -> Result<End, AllocError>
     ensures status { IfOk result (λ end. end.status ≡ Status8.RootNotEmpty) }
     ensures text { IfOk result (λ end. end.text.items

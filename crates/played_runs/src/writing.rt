@@ -40,7 +40,8 @@ fn write_each<K: Sink>(out: &mut K, lines: &[Seq<u8>]) -> Result<(), SinkAnswer>
     Ok(())
 }
 
-/// Writes lines, one after another.
+/// Writes lines, one after another. On an error a front of their text was written, and not all; `Failed` comes exactly where the sink's count
+/// of faults rose.
 pub fn write_lines<K: Sink>(out: &mut K, lines: &[Seq<u8>]) -> Result<(), SinkAnswer>
     ensures bytes { WritesAll (K.written out.old) (K.written out.new) (joined_lines lines.now)
         result }
