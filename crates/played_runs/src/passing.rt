@@ -19,7 +19,7 @@ pub enum Halt {
     DiskFault,
 }
 
-/// Begins a world by its first line, which is let go.
+/// Begins a world by its first line, which is let go. It answers as `begin` does.
 pub fn begin_by<L: Drop, W, D: SharedDisk, B>(
     opening: L,
     disk: &mut D,
