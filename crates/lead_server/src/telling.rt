@@ -145,7 +145,7 @@ pub(crate) fn tell_heard(
 }
 
 /// Posts what a server that worked asks for. Answers with what a server that joins was promised. Where memory runs out some of it was posted,
-/// from the first on.
+/// from the first on, and lines may have been added.
 pub fn tell_worked(
     alloc: Global,
     net: &mut Net,
