@@ -80,8 +80,8 @@ fn commit_joined(
 ///
 /// The journal's disk makes the four calls of an append, as `append_first` says. Where it stops or has a fault in that, the server goes down,
 /// neither disk is armed any more, and the line that tells so is put; it is put first and taken back where it is not so, so that it is not
-/// lost for want of memory. `Memory` comes where memory ran out: nothing was done, or the message is lost and not in the journal, or it joined
-/// the journal, is not on the way back, and its entry is committed or not.
+/// lost for want of memory. `Memory` comes where memory ran out: nothing was done, or the append broke off and the message is lost, or it
+/// joined the journal, is not on the way back, and its entry is committed or not.
 pub fn join_journal<D: SharedDisk, J: SharedDisk>(
     alloc: Global,
     servers: &mut Lone,

@@ -27,7 +27,7 @@ BrokeAfter calls count old new =
     ⊎ LacksMemoryAfter calls count (Some old) (Some new)
     ⊎ StopsAfter calls count (Some old) (Some new)
 
--- and so many were some
+-- they broke off behind some of them
 abbrev pub BrokeOff : List DeviceCall → Files → Files → Type 0
 BrokeOff calls old new = (count : ℕ) × BrokeAfter calls count old new
 
