@@ -22,29 +22,32 @@ use std::alloc::Global;
 use std::sync::Wait;
 use std::thread::Threads;
 
-// Plays the script that these bytes are.
+// Plays the script that these bytes are. They are let go once its lines are read.
 fn play_bytes<R: Threads + Wait + Sync, K: Sink, D: SharedDisk, J: SharedDisk, G: Gate>(
     rt: &R,
     alloc: Global,
-    bytes: &[u8],
+    bytes: Vec<u8>,
     out: &mut K,
     disk: &mut D,
     journal: &mut J,
     gate: &G,
     cold: &mut ColdWorld,
 ) -> Status8
-    requires short { length bytes.now ≤ 16777216 }
+    requires short { length bytes.items ≤ 16777216 }
     requires empty { cold.old ≡ empty_cold }
     requires unarmed { (D.seen disk.old).tally.armed ≡ None }
     requires unarmed_too { (J.seen journal.old).tally.armed ≡ None }
     ensures { let stage = cold_stage (edge K.written K.faults out.old out.new)
         D.seen disk.old disk.new J.seen journal.old journal.new cold.old cold.new
-        in Written (λ reached text. BytesEnd bytes.now stage reached text
+        in Written (λ reached text. BytesEnd bytes.items stage reached text
         × RisesCold reached stage.scene)
-        (λ text. BytesLack bytes.now stage text × BothGoneOn stage.scene) stage.sink result }
+        (λ text. BytesLack bytes.items stage text × BothGoneOn stage.scene) stage.sink result }
 {
-    match parse_script(alloc, bytes) {
-        Ok(lines) => play_cold(rt, alloc, lines, out, disk, journal, gate, cold),
+    match parse_script(alloc, bytes.as_slice()) {
+        Ok(lines) => {
+            drop(bytes);
+            play_cold(rt, alloc, lines, out, disk, journal, gate, cold)
+        }
         Err(ScriptAnswer::Memory) => Status8::Memory,
         Err(ScriptAnswer::Bad { line, why }) => write_bad(alloc, out, line, why),
     }
@@ -69,14 +72,14 @@ fn play_source<R: Threads + Wait + Sync, S: Source, K: Sink, D: SharedDisk, J: S
         J.seen journal.old journal.new cold.old cold.new) result }
 {
     match read_all(alloc, source, INPUT_LIMIT) {
-        Ok(bytes) => play_bytes(rt, alloc, bytes.as_slice(), out, disk, journal, gate, cold),
+        Ok(bytes) => play_bytes(rt, alloc, bytes, out, disk, journal, gate, cold),
         Err(answer) => write_unread(out, answer),
     }
 }
 
 /// Reads the source to its end as a script and plays it on one server and its journal: its first line begins both, on two disks without
-/// files, and the others are their events, whose lines are written as each event ends; the workers of a dispatch pass the gate. Neither disk is
-/// armed before, and the world is empty.
+/// files, and the others are their events, whose lines are written as each event ends; the workers of a dispatch pass the gate. As it is played
+/// its bytes are no longer held. Neither disk is armed before, and the world is empty.
 ///
 /// The clause `ends` says of each status what was read, what is written and what stands; `faults` says which counts rose. `ScriptRefused`
 /// comes exactly where the input is no script, and nothing was asked of a disk; `ReadFault` and `TooLong` where it was not read to its end;

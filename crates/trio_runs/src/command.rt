@@ -22,27 +22,30 @@ use std::sync::Wait;
 use std::thread::Threads;
 use trio_lines::parse_trio;
 
-// Plays the script that these bytes are.
+// Plays the script that these bytes are. They are let go once its lines are read.
 fn play_bytes<R: Threads + Wait + Sync, K: Sink, D: SharedDisk, G: Gate>(
     rt: &R,
     alloc: Global,
-    bytes: &[u8],
+    bytes: Vec<u8>,
     out: &mut K,
     disk: &mut D,
     gate: &G,
     trio: &mut TrioWorld,
 ) -> Status8
-    requires short { length bytes.now ≤ 16777216 }
+    requires short { length bytes.items ≤ 16777216 }
     requires empty { trio.old ≡ empty_trio }
     requires unarmed { (D.seen disk.old).tally.armed ≡ None }
     ensures { let scene = stage (edge K.written K.faults out.old out.new)
         D.seen disk.old disk.new trio.old trio.new
-        in Ended unasked (fault_count scene.disk) (BytesEnd bytes.now scene)
-        (BytesLack bytes.now scene) scene.sink result }
+        in Ended unasked (fault_count scene.disk) (BytesEnd bytes.items scene)
+        (BytesLack bytes.items scene) scene.sink result }
 {
     law_of_trio_scripts();
-    match parse_trio(alloc, bytes) {
-        Ok(lines) => play_trio(rt, alloc, lines, out, disk, gate, trio),
+    match parse_trio(alloc, bytes.as_slice()) {
+        Ok(lines) => {
+            drop(bytes);
+            play_trio(rt, alloc, lines, out, disk, gate, trio)
+        }
         Err(ScriptAnswer::Memory) => Status8::Memory,
         Err(ScriptAnswer::Bad { line, why }) => write_bad(alloc, out, line, why),
     }
@@ -67,14 +70,14 @@ fn play_source<R: Threads + Wait + Sync, S: Source, K: Sink, D: SharedDisk, G: G
         (InputLacks source scene) scene.sink result }
 {
     match read_all(alloc, source, INPUT_LIMIT) {
-        Ok(bytes) => play_bytes(rt, alloc, bytes.as_slice(), out, disk, gate, trio),
+        Ok(bytes) => play_bytes(rt, alloc, bytes, out, disk, gate, trio),
         Err(answer) => write_unread(out, answer),
     }
 }
 
 /// Reads the source to its end as a script for three servers and plays it over the disk: its first line begins a cluster, and the others
-/// are its events, whose lines are written as each event ends; the workers of a dispatch pass the gate. The disk is not armed before, and
-/// the world is empty.
+/// are its events, whose lines are written as each event ends; the workers of a dispatch pass the gate. As it is played its bytes are no
+/// longer held. The disk is not armed before, and the world is empty.
 ///
 /// The clause `ends` says of each status what was read, what is written and what stands; `faults` says which counts rose. `ScriptRefused`
 /// comes exactly where the input is no script, and nothing was asked of the disk; `ReadFault` and `TooLong` where it was not read to its

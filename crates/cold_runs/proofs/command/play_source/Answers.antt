@@ -1,4 +1,4 @@
-use Rattle.std.proofs.Common.{ℕ, List, length, refl, ap, sym, subst, arith}
+use Rattle.std.proofs.Common.{ℕ, List, refl, arith}
 use Rattle.played_runs.specs.Edges.{edge, fault_count}
 use Rattle.played_runs.specs.Counts.{HasStood}
 use Rattle.played_runs.specs.Writing.{Reaching}
@@ -12,7 +12,7 @@ use Rattle.cold_runs.proofs.CommandSteps.{bytes-ends, bytes-lacks, unread-ended}
 use Rattle.cold_runs.proofs.command.play_source.Goals as goal
 
 pub play_bytes-requires-clause-short : goal.play_bytes-requires-clause-short
-play_bytes-requires-clause-short g c κs within = omega (arith, ap length c.as_slice.ensures.value, c.in-Ok.ensures.bytes.bound)
+play_bytes-requires-clause-short g c κs within = omega (arith, c.in-Ok.ensures.bytes.bound)
 
 pub returns-in-Ok : goal.returns-in-Ok
 unfolding input_limit
@@ -20,8 +20,8 @@ returns-in-Ok g c =
     let source = edge g.S.Source.left g.S.Source.faults c.args.source.now c.read_all.new.source in
     let sink = edge g.K.Sink.written g.K.Sink.faults c.args.out.now c.play_bytes.new.out in
     let run = cold_run source sink g.D.SharedDisk.seen c.args.disk.now c.play_bytes.new.disk g.J.SharedDisk.seen c.args.journal.now c.play_bytes.new.journal c.args.cold.now c.play_bytes.new.cold in
-    let bytes = c.as_slice.result.now in
-    let whole = subst (λ (one : List ℕ). ReadsWhole source one) (sym c.as_slice.ensures.value) c.in-Ok.ensures.bytes in
+    let bytes = c.in-Ok.bytes.items in
+    let whole : ReadsWhole source bytes = c.in-Ok.ensures.bytes in
     let stood : HasStood (fault_count source) = c.in-Ok.ensures.cause.stands in
     let E : Reaching = λ reached text. BytesEnd bytes run.stage reached text × RisesCold reached run.stage.scene in
     let F : Reaching = λ reached text. ColdRunEnds run reached text × RisesBefore reached run in

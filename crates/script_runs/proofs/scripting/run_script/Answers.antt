@@ -1,4 +1,4 @@
-use Rattle.std.proofs.Common.{ℕ, List, length, inl, inr, refl, ap, sym, subst, arith}
+use Rattle.std.proofs.Common.{inl, inr, refl, arith}
 use Rattle.played_runs.specs.Edges.{edge, fault_count, stage}
 use Rattle.played_runs.proofs.WritingSteps.{ended-read}
 use Rattle.script_inputs.specs.Inputs.{input_limit, ReadsWhole}
@@ -8,7 +8,7 @@ use Rattle.script_runs.proofs.ReadingSteps.{bytes-input}
 use Rattle.script_runs.proofs.scripting.run_script.Goals as goal
 
 pub run_bytes-requires-clause-short : goal.run_bytes-requires-clause-short
-run_bytes-requires-clause-short g c = omega (arith, ap length c.as_slice.ensures.value, c.in-Ok.ensures.bytes.bound)
+run_bytes-requires-clause-short g c = omega (arith, c.in-Ok.ensures.bytes.bound)
 
 pub returns-in-Ok : goal.returns-in-Ok
 unfolding input_limit
@@ -16,8 +16,8 @@ returns-in-Ok g c =
     let source = edge g.S.Source.left g.S.Source.faults c.args.source.now c.read_all.new.source in
     let sink = edge g.K.Sink.written g.K.Sink.faults c.args.out.now c.run_bytes.new.out in
     let scene = stage sink g.D.SharedDisk.seen c.args.disk.now c.run_bytes.new.disk c.args.world.now c.run_bytes.new.world in
-    let bytes = c.as_slice.result.now in
-    let whole = subst (λ (one : List ℕ). ReadsWhole source one) (sym c.as_slice.ensures.value) c.in-Ok.ensures.bytes in
+    let bytes = c.in-Ok.bytes.items in
+    let whole : ReadsWhole source bytes = c.in-Ok.ensures.bytes in
     ended-read (fault_count source) (fault_count scene.disk) ((BytesEnd g.W.Playable.game) bytes scene) ((InputEnds g.W.Playable.game) source scene) ((BytesLack g.W.Playable.game) bytes scene) ((InputLacks g.W.Playable.game) source scene) sink c.run_bytes.result c.in-Ok.ensures.cause.stands (bytes-input g.W.Playable.game source scene bytes whole) (λ text lacks. inr (bytes, whole, lacks)) c.run_bytes.ensures
 
 pub returns-in-Err : goal.returns-in-Err

@@ -1,4 +1,4 @@
-use Rattle.std.proofs.Common.{ℕ, List, length, inl, inr, refl, ap, sym, subst, arith}
+use Rattle.std.proofs.Common.{inl, inr, refl, arith}
 use Rattle.played_runs.specs.Edges.{edge, fault_count, stage}
 use Rattle.played_runs.proofs.WritingSteps.{ended-read}
 use Rattle.script_inputs.specs.Inputs.{input_limit, ReadsWhole}
@@ -8,7 +8,7 @@ use Rattle.trio_runs.proofs.CommandSteps.{bytes-input}
 use Rattle.trio_runs.proofs.command.play_source.Goals as goal
 
 pub play_bytes-requires-clause-short : goal.play_bytes-requires-clause-short
-play_bytes-requires-clause-short g c κs within = omega (arith, ap length c.as_slice.ensures.value, c.in-Ok.ensures.bytes.bound)
+play_bytes-requires-clause-short g c κs within = omega (arith, c.in-Ok.ensures.bytes.bound)
 
 pub returns-in-Ok : goal.returns-in-Ok
 unfolding input_limit
@@ -16,8 +16,8 @@ returns-in-Ok g c =
     let source = edge g.S.Source.left g.S.Source.faults c.args.source.now c.read_all.new.source in
     let sink = edge g.K.Sink.written g.K.Sink.faults c.args.out.now c.play_bytes.new.out in
     let scene = stage sink g.D.SharedDisk.seen c.args.disk.now c.play_bytes.new.disk c.args.trio.now c.play_bytes.new.trio in
-    let bytes = c.as_slice.result.now in
-    let whole = subst (λ (one : List ℕ). ReadsWhole source one) (sym c.as_slice.ensures.value) c.in-Ok.ensures.bytes in
+    let bytes = c.in-Ok.bytes.items in
+    let whole : ReadsWhole source bytes = c.in-Ok.ensures.bytes in
     ended-read (fault_count source) (fault_count scene.disk) (BytesEnd bytes scene) (InputEnds source scene) (BytesLack bytes scene) (InputLacks source scene) sink c.play_bytes.result c.in-Ok.ensures.cause.stands (bytes-input source scene bytes whole) (λ text lacks. inr (bytes, whole, lacks)) c.play_bytes.ensures
 
 pub returns-in-Err : goal.returns-in-Err
