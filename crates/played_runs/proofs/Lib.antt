@@ -12,3 +12,4 @@ pub mod GoingSteps
 pub mod FaultLaws
 pub mod EndingSteps
 pub mod PassingSteps
+mod LeftSteps

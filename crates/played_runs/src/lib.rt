@@ -3,6 +3,7 @@
 #![tactic(auto)]
 
 mod ending;
+mod left;
 mod packing;
 mod passing;
 mod playable;
@@ -10,6 +11,7 @@ mod playing;
 mod writing;
 
 pub use ending::{End, Status8, end_with, root_holds};
+pub use left::LinesLeft;
 pub use passing::{Halt, begin_by, pass_lines};
 pub use playable::Playable;
 pub use playing::{first_name, play, write_held};

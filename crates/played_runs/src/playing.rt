@@ -13,6 +13,8 @@ ghost use Rattle.played_runs.specs.Views.{HoldsNone, counters_of, names_told};
 ghost use Rattle.played_runs.specs.Writing.{Ended, IsNone, IsText, Written, unasked};
 
 use crate::ending::{Status8, root_holds};
+use crate::left::LinesLeft;
+use crate::passing::begin_by;
 use crate::playable::Playable;
 use crate::writing::{unwritten, write_broken, write_lines, write_text};
 use ais_values::{Duplicate, Seq, Text};
@@ -48,9 +50,30 @@ where
     }
 }
 
-// Plays the lines behind the opening.
-fn play_events<L, W, K: Sink, D: SharedDisk, E>(
-    events: &[L],
+// Plays a line, and lets it go.
+fn play_one<L: Drop, W, K: Sink, D: SharedDisk, E>(
+    line: L,
+    out: &mut K,
+    disk: &mut D,
+    world: &mut W,
+    event: &E,
+) -> Result<(), Status8>
+where
+    W: Playable<L>,
+    E: Fn(&L, &mut D, &mut W) -> Result<Seq<Seq<u8>>, EventAnswer>,
+    requires can { CanDo W.game D.seen line disk.old world.old }
+    requires event { DoesLines W.game D.seen E.Fn event.now }
+    ensures { PlaysLine W.game line (D.seen disk.old) (D.seen disk.new) world.old world.new
+        (edge K.written K.faults out.old out.new) result }
+{
+    let played = play_line(&line, out, disk, world, event);
+    mem::drop(line);
+    played
+}
+
+// Plays the lines behind the opening, each of which is let go once it was played.
+fn play_events<L: Drop, W, K: Sink, D: SharedDisk, E>(
+    events: &mut LinesLeft<L>,
     out: &mut K,
     disk: &mut D,
     world: &mut W,
@@ -60,19 +83,19 @@ where
     W: Playable<L>,
     E: Fn(&L, &mut D, &mut W) -> Result<Seq<Seq<u8>>, EventAnswer>,
     requires begun { HasBegun W.game (D.seen disk.old) world.old }
-    requires follows { CanFollow W.game (W.game.now world.old) events.now }
+    requires follows { CanFollow W.game (W.game.now world.old) events.old }
     requires event { DoesLines W.game D.seen E.Fn event.now }
     ensures { (setup : Setup) (places : ℕ) (held : Option Files)
         → Begun W.game setup places held (D.seen disk.old) world.old
         → let first = counters_of (D.seen disk.old) in
         Ended unasked ((D.seen disk.old).faults, (D.seen disk.new).faults)
         (EventsEnd W.game setup places held first (D.seen disk.new) (StoodUpTo D.seen) world.new
-        events.now)
-        (LacksBehind W.game setup places held first (D.seen disk.new) world.new events.now)
+        events.old)
+        (LacksBehind W.game setup places held first (D.seen disk.new) world.new events.old)
         (edge K.written K.faults out.old out.new) result }
 {
-    for line in events {
-        match play_line(line, out, disk, world, event) {
+    while let Some(line) = events.take_next() {
+        match play_one(line, out, disk, world, event) {
             Ok(()) => {}
             Err(status) => return status,
         }
@@ -80,10 +103,10 @@ where
     Status8::Done
 }
 
-// Begins the cluster, and plays the lines behind its line. The stage is that of the disk before its names were asked for.
-fn open<L, W, K: Sink, D: SharedDisk, B, E>(
-    opening: &L,
-    events: &[L],
+// Begins the cluster, and plays the lines behind its line, which is let go. The stage is that of the disk before its names were asked for.
+fn open<L: Drop, W, K: Sink, D: SharedDisk, B, E>(
+    opening: L,
+    events: &mut LinesLeft<L>,
     out: &mut K,
     disk: &mut D,
     world: &mut W,
@@ -94,18 +117,18 @@ where
     W: Playable<L>,
     B: Fn(&L, &mut D, &mut W) -> Result<(), EventAnswer>,
     E: Fn(&L, &mut D, &mut W) -> Result<Seq<Seq<u8>>, EventAnswer>,
-    requires script { CanPlay W.game opening.now events.now }
+    requires script { CanPlay W.game opening events.old }
     requires empty { world.old ≡ W.game.empty }
     requires bare { HoldsNone (D.seen disk.old).files }
     requires unarmed { (D.seen disk.old).tally.armed ≡ None }
     requires begin { BeginsBy W.game D.seen B.Fn begin.now }
     requires event { DoesLines W.game D.seen E.Fn event.now }
     ensures { (earlier : D) → D.seen disk.old ≡ names_told (D.seen earlier)
-        → PlayedOn W.game (opening.now ∷ events.now)
+        → PlayedOn W.game (opening ∷ events.old)
         (stage (edge K.written K.faults out.old out.new) D.seen earlier disk.new
         world.old world.new) result }
 {
-    match begin(opening, disk, world) {
+    match begin_by(opening, disk, world, begin) {
         Ok(()) => play_events(events, out, disk, world, event),
         Err(EventAnswer::Memory) => Status8::Memory,
         Err(EventAnswer::DiskFault { printed }) => write_broken(out, printed.as_slice()),
@@ -146,10 +169,10 @@ pub fn write_held<K: Sink>(alloc: Global, out: &mut K, name: &[u8]) -> Status8
     }
 }
 
-// Plays the lines of a script, which stay.
-fn play_all<L, W, K: Sink, D: SharedDisk, B, E>(
+// Plays the lines of a script, which are let go.
+fn play_all<L: Drop, W, K: Sink, D: SharedDisk, B, E>(
     alloc: Global,
-    lines: &[L],
+    lines: &mut LinesLeft<L>,
     out: &mut K,
     disk: &mut D,
     world: &mut W,
@@ -160,18 +183,18 @@ where
     W: Playable<L>,
     B: Fn(&L, &mut D, &mut W) -> Result<(), EventAnswer>,
     E: Fn(&L, &mut D, &mut W) -> Result<Seq<Seq<u8>>, EventAnswer>,
-    requires script { IsPlayable W.game lines.now }
+    requires script { IsPlayable W.game lines.old }
     requires empty { world.old ≡ W.game.empty }
     requires unarmed { (D.seen disk.old).tally.armed ≡ None }
     requires begin { BeginsBy W.game D.seen B.Fn begin.now }
     requires event { DoesLines W.game D.seen E.Fn event.now }
-    ensures { PlayedOn W.game lines.now (stage (edge K.written K.faults out.old out.new)
+    ensures { PlayedOn W.game lines.old (stage (edge K.written K.faults out.old out.new)
         D.seen disk.old disk.new world.old world.new) result }
 {
     match first_name(alloc, disk) {
-        Ok(None) => match lines.split_first() {
+        Ok(None) => match lines.take_next() {
             None => Status8::Memory,
-            Some((opening, events)) => open(opening, events, out, disk, world, begin, event),
+            Some(opening) => open(opening, lines, out, disk, world, begin, event),
         },
         Ok(Some(name)) => write_held(alloc, out, name.as_slice()),
         Err(DiskAnswer::Memory) => Status8::Memory,
@@ -182,7 +205,7 @@ where
 }
 
 /// Plays the lines of a script over a disk: the first begins a cluster where the disk holds no file, and the
-/// others are its events, whose lines are written as each event ends.
+/// others are its events, whose lines are written as each event ends. A line is let go once it was played.
 ///
 /// `RootNotEmpty` comes where the disk holds a file; its least name is written, and disk and world stay.
 /// `DiskFault` comes only where the disk's count of faults rose: as its names were asked for, in the deeds of the start, as a
@@ -209,7 +232,8 @@ where
     ensures { PlayedOn W.game lines (stage (edge K.written K.faults out.old out.new)
         D.seen disk.old disk.new world.old world.new) result }
 {
-    let status = play_all(alloc, lines.as_slice(), out, disk, world, begin, event);
-    mem::drop(lines);
+    let mut left = LinesLeft::new(lines);
+    let status = play_all(alloc, &mut left, out, disk, world, begin, event);
+    mem::drop(left);
     status
 }

@@ -7,6 +7,7 @@ use Rattle.played_runs.specs.declared.ending.Status8.TheVariants.{DiskFault, Roo
 use Rattle.played_runs.specs.Counts.{HasRisen}
 use Rattle.played_runs.specs.Edges.{edge, fault_count, stage}
 use Rattle.played_runs.specs.Ends.{PlayEnds, PlayLacks, Unopened, AtNames, fault_line}
+use Rattle.played_runs.specs.Steps.{IsPlayable}
 use Rattle.played_runs.specs.Writing.{Counting, Ended, IsNone, IsText, Standing, unasked}
 use Rattle.played_runs.proofs.CountSteps.{other-stood, stood-on}
 use Rattle.played_runs.proofs.EndingSteps.{lacked, names-told, text-ends, text-written}
@@ -35,8 +36,12 @@ returns-in-Some g c =
     let scene = stage sink g.D.SharedDisk.seen c.args.disk.now c.open.new.disk c.args.world.now c.open.new.world in
     let found = c.in-Ok-None.ensures in
     let named = names-told (g.D.SharedDisk.seen c.args.disk.now) (g.D.SharedDisk.seen c.first_name.new.disk) found.same found.counted found.cause.stands found.stops_stay in
-    subst (λ (lines : List g.row.L.Denot). Ended unasked (fault_count scene.disk) (PlayEnds g.W.Playable.game lines scene) (PlayLacks g.W.Playable.game lines scene) sink c.open.result) (sym c.in-Some.ensures.cases.0)
+    subst (λ (lines : List g.row.L.Denot). Ended unasked (fault_count scene.disk) (PlayEnds g.W.Playable.game lines scene) (PlayLacks g.W.Playable.game lines scene) sink c.open.result) (sym c.in-Some.ensures)
     (c.open.ensures c.args.disk.now named)
+
+-- a script that can be played has a line
+pub returns-in-None : goal.returns-in-None
+returns-in-None g c = absurd (subst (IsPlayable g.W.Playable.game) c.in-None.ensures c.requires.script)
 
 pub returns-in-Err-Memory : goal.returns-in-Err-Memory
 returns-in-Err-Memory g c =
@@ -60,6 +65,9 @@ returns-in-Err-Failed g c =
     let failed = c.in-Err-Failed.ensures in
     let risen : HasRisen disk = (failed.cause.later, failed.cause.rose (ap Err c.in-Err-Failed.field-0-is)) in
     text-written (Counting unasked disk (PlayEnds g.W.Playable.game c.args.lines.now scene)) (Standing unasked disk (PlayLacks g.W.Playable.game c.args.lines.now scene)) DiskFault fault_line sink c.write_broken.result (AtNames (record { files = failed.same; tally = failed.counted; stops = failed.stops_stay }) refl refl, (refl, risen)) c.write_broken.ensures
+
+pub open-requires-clause-script : goal.open-requires-clause-script
+open-requires-clause-script g c = subst (IsPlayable g.W.Playable.game) c.in-Some.ensures c.requires.script
 
 pub open-requires-clause-unarmed : goal.open-requires-clause-unarmed
 open-requires-clause-unarmed g c = ap (λ (tally : Tally). tally.armed) c.in-Ok-None.ensures.counted ∙ c.requires.unarmed
