@@ -15,10 +15,10 @@ use command_journal::{ColdWorld, EventAnswer};
 use disk_model::{DiskAnswer, SharedDisk};
 use io_edge::Sink;
 use played_runs::{
-    End, Status8, end_with, first_name, unwritten, write_broken, write_held, write_lines,
-    write_text,
+    End, LinesLeft, Status8, end_with, first_name, unwritten, write_broken, write_held,
+    write_lines, write_text,
 };
-use script_lines::Line;
+use script_lines::{Line, let_line_go};
 use std::alloc::{AllocError, Global};
 use std::mem;
 use std::sync::Wait;
@@ -100,25 +100,47 @@ fn play_line<R: Threads + Wait + Sync, K: Sink, D: SharedDisk, J: SharedDisk, G:
     }
 }
 
-// Plays the lines behind the opening.
+// Plays a line, and lets it go.
+fn play_one<R: Threads + Wait + Sync, K: Sink, D: SharedDisk, J: SharedDisk, G: Gate>(
+    rt: &R,
+    alloc: Global,
+    line: Line,
+    out: &mut K,
+    disk: &mut D,
+    journal: &mut J,
+    gate: &G,
+    world: &mut ColdWorld,
+) -> Result<(), Status8>
+    requires can { CanComeCold (line ∷ []) }
+    requires state { HasCold world.old (both (D.seen disk.old) (J.seen journal.old)) }
+    ensures { PlaysOne line world.old world.new (both (D.seen disk.old) (J.seen journal.old))
+        (both (D.seen disk.new) (J.seen journal.new)) (edge K.written K.faults out.old out.new)
+        result }
+{
+    let played = play_line(rt, alloc, &line, out, disk, journal, gate, world);
+    let_line_go(line);
+    played
+}
+
+// Plays the lines behind the opening, each of which is let go once it was played.
 fn play_events<R: Threads + Wait + Sync, K: Sink, D: SharedDisk, J: SharedDisk, G: Gate>(
     rt: &R,
     alloc: Global,
-    events: &[Line],
+    events: &mut LinesLeft<Line>,
     out: &mut K,
     disk: &mut D,
     journal: &mut J,
     gate: &G,
     world: &mut ColdWorld,
 ) -> Status8
-    requires can { CanComeCold events.now }
+    requires can { CanComeCold events.old }
     requires state { HasCold world.old (both (D.seen disk.old) (J.seen journal.old)) }
-    ensures { PlaysEvents events.now world.old world.new
+    ensures { PlaysEvents events.old world.old world.new
         (both (D.seen disk.old) (J.seen journal.old)) (both (D.seen disk.new) (J.seen journal.new))
         (edge K.written K.faults out.old out.new) result }
 {
-    for line in events {
-        match play_line(rt, alloc, line, out, disk, journal, gate, world) {
+    while let Some(line) = events.take_next() {
+        match play_one(rt, alloc, line, out, disk, journal, gate, world) {
             Ok(()) => {}
             Err(status) => return status,
         }
@@ -152,60 +174,65 @@ fn first_of<D: SharedDisk, J: SharedDisk>(
     }
 }
 
-// Begins the server and its journal, and plays the lines behind their line. The scene is that before the disks were asked for their names.
+// Begins the server and its journal, and plays the lines behind their line, which is let go. The scene is that before the disks were asked for
+// their names.
 fn open<R: Threads + Wait + Sync, K: Sink, D: SharedDisk, J: SharedDisk, G: Gate>(
     rt: &R,
     alloc: Global,
-    opening: &Line,
-    events: &[Line],
+    opening: Line,
+    events: &mut LinesLeft<Line>,
     out: &mut K,
     disk: &mut D,
     journal: &mut J,
     gate: &G,
     world: &mut ColdWorld,
 ) -> Status8
-    requires script { CanOpenCold opening.now events.now }
+    requires script { CanOpenCold opening events.old }
     requires empty { world.old ≡ empty_cold }
     requires bare { HoldsNone (D.seen disk.old).files }
     requires bare_too { HoldsNone (J.seen journal.old).files }
     requires unarmed { (D.seen disk.old).tally.armed ≡ None }
     requires unarmed_too { (J.seen journal.old).tally.armed ≡ None }
     ensures { (held : ColdSeen) → both (D.seen disk.old) (J.seen journal.old) ≡ both_named held
-        → PlaysCold (opening.now ∷ events.now) (cold_scene held
+        → PlaysCold (opening ∷ events.old) (cold_scene held
         (both (D.seen disk.new) (J.seen journal.new)) world.old world.new)
         (edge K.written K.faults out.old out.new) result }
 {
-    match world.begin(rt, alloc, opening, disk, journal) {
-        Ok(()) => play_events(rt, alloc, events, out, disk, journal, gate, world),
-        Err(answer) => write_answer(alloc, out, answer),
+    match world.begin(rt, alloc, &opening, disk, journal) {
+        Ok(()) => {
+            let_line_go(opening);
+            play_events(rt, alloc, events, out, disk, journal, gate, world)
+        }
+        Err(answer) => {
+            let_line_go(opening);
+            write_answer(alloc, out, answer)
+        }
     }
 }
 
-// Plays the lines of a script, which stay.
+// Plays the lines of a script, which are let go.
 fn play_all<R: Threads + Wait + Sync, K: Sink, D: SharedDisk, J: SharedDisk, G: Gate>(
     rt: &R,
     alloc: Global,
-    lines: &[Line],
+    lines: &mut LinesLeft<Line>,
     out: &mut K,
     disk: &mut D,
     journal: &mut J,
     gate: &G,
     world: &mut ColdWorld,
 ) -> Status8
-    requires script { IsPlayableCold lines.now }
+    requires script { IsPlayableCold lines.old }
     requires empty { world.old ≡ empty_cold }
     requires unarmed { (D.seen disk.old).tally.armed ≡ None }
     requires unarmed_too { (J.seen journal.old).tally.armed ≡ None }
-    ensures { PlaysCold lines.now (cold_scene (both (D.seen disk.old) (J.seen journal.old))
+    ensures { PlaysCold lines.old (cold_scene (both (D.seen disk.old) (J.seen journal.old))
         (both (D.seen disk.new) (J.seen journal.new)) world.old world.new)
         (edge K.written K.faults out.old out.new) result }
 {
     match first_of(alloc, disk, journal) {
-        Ok(None) => match lines.split_first() {
+        Ok(None) => match lines.take_next() {
             None => Status8::Memory,
-            Some((opening, events)) => {
-                open(rt, alloc, opening, events, out, disk, journal, gate, world)
-            }
+            Some(opening) => { open(rt, alloc, opening, lines, out, disk, journal, gate, world) }
         },
         Ok(Some(name)) => write_held(alloc, out, name.as_slice()),
         Err(DiskAnswer::Memory) => Status8::Memory,
@@ -216,7 +243,8 @@ fn play_all<R: Threads + Wait + Sync, K: Sink, D: SharedDisk, J: SharedDisk, G: 
 }
 
 /// Plays the lines of a script on one server and its journal: the first begins both where neither disk holds a file, and the others are
-/// their events, whose lines are written as each event ends. The workers of a dispatch pass the gate.
+/// their events, whose lines are written as each event ends. The workers of a dispatch pass the gate. A line is let go once it was
+/// played.
 ///
 /// `RootNotEmpty` comes where a disk holds a file, the record disk's first: its least name is written, and disks and world stay.
 /// `DiskFault` comes only where a disk's count of faults rose: as its names were asked for, in the start, or in the event that ended the
@@ -239,7 +267,8 @@ pub fn play_cold<R: Threads + Wait + Sync, K: Sink, D: SharedDisk, J: SharedDisk
         (both (D.seen disk.new) (J.seen journal.new)) world.old world.new)
         (edge K.written K.faults out.old out.new) result }
 {
-    let status = play_all(rt, alloc, lines.as_slice(), out, disk, journal, gate, world);
-    mem::drop(lines);
+    let mut left = LinesLeft::new(lines);
+    let status = play_all(rt, alloc, &mut left, out, disk, journal, gate, world);
+    mem::drop(left);
     status
 }

@@ -28,7 +28,7 @@ returns-in-Ok g c held asked =
     let begins = c.requires.script.begins in
     let begun = c.in-Ok.ensures.ok begins.0 begins.1 begins.2 c.requires.bare in
     let leaves = c.in-Ok.ensures.leaves begins.0 begins.1 begins.2 in
-    let goes = begun-goes held mid left asked c.args.opening.now c.args.events.now begins.0 begins.1 begins.2 c.requires.bare c.requires.bare_too c.begin.new.self begun leaves c.in-Ok.ensures.cause (c.requires.script.follows begins.0 begins.1 begins.2) in
+    let goes = begun-goes held mid left asked c.args.opening c.args.events.now begins.0 begins.1 begins.2 c.requires.bare c.requires.bare_too c.begin.new.self begun leaves c.in-Ok.ensures.cause (c.requires.script.follows begins.0 begins.1 begins.2) in
     c.play_events.ensures held _ [] [] c.args.world.now goes
 
 pub returns-in-Err : goal.returns-in-Err
@@ -37,4 +37,4 @@ returns-in-Err g c held asked =
     let left = both (g.D.SharedDisk.seen c.begin.new.disk) (g.J.SharedDisk.seen c.begin.new.journal) in
     let sink = edge g.K.Sink.written g.K.Sink.faults c.args.out.now c.write_answer.new.out in
     let begins = c.requires.script.begins in
-    start-broken held mid left asked c.args.opening.now c.args.events.now begins.0 begins.1 begins.2 c.requires.bare c.requires.bare_too c.in-Err.answer sink c.write_answer.result c.args.world.now c.begin.new.self c.in-Err.ensures.same (c.in-Err.ensures.leaves begins.0 begins.1 begins.2) c.in-Err.ensures.cause c.write_answer.ensures
+    start-broken held mid left asked c.args.opening c.args.events.now begins.0 begins.1 begins.2 c.requires.bare c.requires.bare_too c.in-Err.answer sink c.write_answer.result c.args.world.now c.begin.new.self c.in-Err.ensures.same (c.in-Err.ensures.leaves begins.0 begins.1 begins.2) c.in-Err.ensures.cause c.write_answer.ensures

@@ -4,12 +4,12 @@ use Rattle.command_journal.specs.Worlds.{both}
 use Rattle.played_runs.specs.Edges.{edge}
 use Rattle.cold_runs.specs.Ends.{PlaysCold}
 use Rattle.cold_runs.specs.Stages.{cold_scene}
-use Rattle.cold_runs.specs.Steps.{FirstOfBoth}
+use Rattle.cold_runs.specs.Steps.{FirstOfBoth, IsPlayableCold}
 use Rattle.cold_runs.proofs.NameSteps.{names-fail, names-lack, root-ends, still-bare, still-unarmed, still-unarmed-too}
 use Rattle.cold_runs.proofs.playing.play_all.Goals as goal
 
 pub open-requires-clause-script : goal.open-requires-clause-script
-open-requires-clause-script g c κs within = rw c.in-Some.ensures.cases.0 at c.requires.script
+open-requires-clause-script g c κs within = subst IsPlayableCold c.in-Some.ensures c.requires.script
 
 pub open-requires-clause-bare : goal.open-requires-clause-bare
 open-requires-clause-bare g c κs within =
@@ -41,7 +41,7 @@ returns-in-Some g c =
     let left = both (g.D.SharedDisk.seen c.open.new.disk) (g.J.SharedDisk.seen c.open.new.journal) in
     let sink = edge g.K.Sink.written g.K.Sink.faults c.args.out.now c.open.new.out in
     let named = rw c.in-Ok-None.field-0-is at c.in-Ok-None.ensures in
-    subst (λ (lines : List Line). PlaysCold lines (cold_scene held left c.args.world.now c.open.new.world) sink c.open.result) (sym c.in-Some.ensures.cases.0) (c.open.ensures held named.2)
+    subst (λ (lines : List Line). PlaysCold lines (cold_scene held left c.args.world.now c.open.new.world) sink c.open.result) (sym c.in-Some.ensures) (c.open.ensures held named.2)
 
 pub returns-in-Ok-Some : goal.returns-in-Ok-Some
 returns-in-Ok-Some g c =
@@ -51,6 +51,10 @@ returns-in-Ok-Some g c =
     let found : FirstOfBoth held left (Some c.in-Ok-Some.name) = rw c.in-Ok-Some.field-0-is at c.in-Ok-Some.ensures in
     let named = subst (λ (name : List ℕ). FirstOfBoth held left (Some name)) (sym c.as_slice.ensures.bytes) found in
     root-ends c.args.lines.now held left c.args.world.now sink c.as_slice.result.now c.write_held.result named c.write_held.ensures
+
+-- a script that can be played has a line
+pub returns-in-None : goal.returns-in-None
+returns-in-None g c = absurd (subst IsPlayableCold c.in-None.ensures c.requires.script)
 
 pub returns-in-Err-Memory : goal.returns-in-Err-Memory
 returns-in-Err-Memory g c =
