@@ -2,6 +2,7 @@
 ghost use Rattle.std.specs.Prelude.{◌≡◌, IfOk, OnOk, OnErr};
 ghost use Rattle.std.specs.List.{AllByRecursion};
 ghost use Rattle.wire.specs.MessageSpelling.{MessageInRange};
+ghost use Rattle.wire.specs.Messages.{Spells};
 ghost use Rattle.cluster_clients.specs.Spelled.{Posts, PostsOrNot, IsNumberIn, IsRaw, InjectsRaw, Injects, InjectsOrNot};
 ghost use Rattle.cluster_clients.specs.Posted.{PostsAll};
 ghost use Rattle.cluster_clients.specs.Posted.{PostsSome};
@@ -12,6 +13,16 @@ use event_text::{put_post, put_raw};
 use message_net::Net;
 use std::alloc::{AllocError, Global};
 use wire::{Message, encode, law_of_spellings, let_message_go};
+
+/// The spelling of a message in just the room that it takes, as the net keeps it.
+fn kept_spelling(alloc: Global, message: &Message) -> Result<Vec<u8>, AllocError>
+    requires { MessageInRange message.now }
+    ensures { IfOk result (λ bytes. Spells message.now bytes.items) }
+{
+    let spelled = encode(alloc, message)?;
+    let bytes = Vec::from_slice(alloc, spelled.as_slice())?;
+    Ok(bytes)
+}
 
 /// Posts a message, and adds its line where the net did not have it. Where memory runs out the net may have the message.
 pub fn post(
@@ -25,7 +36,7 @@ pub fn post(
     ensures err { OnErr result (PostsOrNot message.now net.old net.new) }
 {
     law_of_spellings();
-    let bytes = encode(alloc, message)?;
+    let bytes = kept_spelling(alloc, message)?;
     let posted = net.post_owned(bytes)?;
     if !posted.new {
         return Ok(());
