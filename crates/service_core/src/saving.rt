@@ -135,11 +135,19 @@ fn push_alarm(
     }
 }
 
-/// The stored alarms.
+/// A list without alarms that has room for so many.
+fn room_for(alloc: Global, count: u32) -> Result<Seq<SavedAlarm>, AllocError>
+    ensures { IfOk result (λ saved. saved ≡ []) }
+{
+    let room = Vec::with_capacity(alloc, count as usize)?;
+    Ok(Seq::from_vec(room))
+}
+
+/// The stored alarms, in just the room that they take.
 fn alarms_of(alloc: Global, alarms: &AlarmView) -> Result<Seq<SavedAlarm>, AllocError>
     ensures { IfOk result (λ saved. saved ≡ map saved_alarm alarms.now.kept) }
 {
-    let mut saved = Seq::new(alloc);
+    let mut saved = room_for(alloc, alarms.count())?;
     for place in 0..alarms.count() {
         push_alarm(alloc, &mut saved, alarms, place)?;
     }
