@@ -6,7 +6,7 @@ ghost use Rattle.ntf_types.specs.Sound.{IsSource, IsShortValue, IsShortChange, H
 
 use crate::{Body, Change, Notification, Pair, Value, kind_of};
 use ais_values::tables::EVENT_TYPES;
-use ais_values::{CodeRow, Status, is_time};
+use ais_values::{Boxed, CodeRow, Status, is_time};
 
 /// The most bytes of additional text, and of a value's text or binary.
 pub const MAX_BYTES: usize = 1024;
@@ -51,6 +51,13 @@ fn is_short(value: &Value) -> bool
         Value::TextOf { text } => text.as_slice().len() <= MAX_BYTES,
         Value::Binary { bytes } => bytes.as_slice().len() <= MAX_BYTES,
     }
+}
+
+/// Whether a value that stands by itself is short enough.
+fn holds_short(value: &Boxed<Value>) -> bool
+    ensures { IsTrue result ↔ IsShortValue value.now }
+{
+    is_short(value.get())
 }
 
 /// Whether both values of a change are short enough.
@@ -104,7 +111,10 @@ fn is_sound_body(body: &Body) -> bool
             provider,
             ..
         } => {
-            *severity <= MAX_SEVERITY && is_short(detector) && is_short(user) && is_short(provider)
+            *severity <= MAX_SEVERITY
+                && holds_short(detector)
+                && holds_short(user)
+                && holds_short(provider)
         }
     }
 }

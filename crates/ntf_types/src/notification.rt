@@ -3,7 +3,7 @@ ghost use Rattle.std.specs.Prelude.{◌≡◌};
 ghost use Rattle.ntf_types.specs.Kinds.{kind_of};
 
 use crate::{Change, Pair, StateChange, Value};
-use ais_values::{ClassId, Duplicate, Name, Seq, Text};
+use ais_values::{Boxed, ClassId, Duplicate, Name, Seq, Text};
 use std::alloc::{AllocError, Global};
 
 /// What a notification tells, by its type.
@@ -29,13 +29,13 @@ pub enum Body {
         cause: u16,
         severity: u16,
     },
-    /// A security alarm.
+    /// A security alarm. Its values stand by themselves in memory, so that no notification is wider for them.
     Security {
         cause: u16,
         severity: u16,
-        detector: Value,
-        user: Value,
-        provider: Value,
+        detector: Boxed<Value>,
+        user: Boxed<Value>,
+        provider: Boxed<Value>,
     },
 }
 

@@ -9,7 +9,7 @@ use crate::lists::maybe_list;
 use crate::numbers::{number16_behind, skip};
 use crate::quoted::quoted_behind;
 use crate::trouble::Trouble;
-use crate::values::{event_origin, value_behind};
+use crate::values::{boxed_behind, event_origin};
 use ntf_types::{Body, Notification};
 use script_lines::{Heading, NoteKind};
 use std::alloc::Global;
@@ -110,9 +110,9 @@ fn security(alloc: Global, bytes: &[u8]) -> Result<(Body, &[u8]), Trouble>
     ensures { Gives (λ found. (found.0, found.1.now)) result (security_at bytes.now) }
 {
     let ((cause, severity), rest) = cause_and_severity(bytes).ok_or(Trouble::Bad)?;
-    let (detector, rest) = value_behind(alloc, rest, b" detector=")?;
-    let (user, rest) = value_behind(alloc, rest, b" user=")?;
-    let (provider, rest) = value_behind(alloc, rest, b" provider=")?;
+    let (detector, rest) = boxed_behind(alloc, rest, b" detector=")?;
+    let (user, rest) = boxed_behind(alloc, rest, b" user=")?;
+    let (provider, rest) = boxed_behind(alloc, rest, b" provider=")?;
     let body = Body::Security {
         cause,
         severity,

@@ -11,7 +11,7 @@ use crate::numbers::{
 };
 use crate::quoted::{hex_word_behind, name_behind, quoted, quoted_name};
 use crate::trouble::Trouble;
-use ais_values::{ClassId, Name, Version};
+use ais_values::{Boxed, ClassId, Name, Version};
 use ntf_types::{Change, Pair, StateChange, Value};
 use script_lines::Server;
 use std::alloc::Global;
@@ -119,6 +119,19 @@ pub(crate) fn value_behind<'a>(
         Some(rest) => value(alloc, rest),
         None => Err(Trouble::Bad),
     }
+}
+
+/// The value behind the word, by itself in memory.
+pub(crate) fn boxed_behind<'a>(
+    alloc: Global,
+    bytes: &'a [u8],
+    label: &[u8],
+) -> Result<(Boxed<Value>, &'a [u8]), Trouble>
+    ensures { Gives (λ found. (found.0, found.1.now)) result (word label.now value_at bytes.now) }
+{
+    let (value, rest) = value_behind(alloc, bytes, label)?;
+    let value = Boxed::new(alloc, value)?;
+    Ok((value, rest))
 }
 
 /// The value behind the word, where the word stands.

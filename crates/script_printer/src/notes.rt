@@ -133,7 +133,14 @@ fn put_body(out: &mut Vec<u8>, body: &Body) -> Result<(), AllocError>
             detector,
             user,
             provider,
-        } => put_security(out, *cause, *severity, detector, user, provider),
+        } => put_security(
+            out,
+            *cause,
+            *severity,
+            detector.get(),
+            user.get(),
+            provider.get(),
+        ),
     }
 }
 

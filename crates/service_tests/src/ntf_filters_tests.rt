@@ -1,13 +1,18 @@
 //! Filters against notifications, each list for itself, and sets that may not be used.
 use crate::fixtures::{CLASS, notification};
-use ais_values::{ClassId, Duplicate, Name, Seq};
+use ais_values::{Boxed, ClassId, Duplicate, Name, Seq};
 use ntf_filters::{Filter, FilterSet, check_filters, matches};
 use ntf_types::{Body, Notification, Value};
 use std::alloc::Global;
 use std::process::Abort;
 
+/// The number 0, by itself in memory.
+fn zero(rt: &impl Abort, alloc: Global) -> Boxed<Value> {
+    Boxed::new(alloc, Value::Int { value: 0 }).expect(rt, "memory")
+}
+
 /// A body whose source is 2, its cause 7 and its severity 4.
-fn body_of(alloc: Global, kind: u16) -> Body {
+fn body_of(rt: &impl Abort, alloc: Global, kind: u16) -> Body {
     match kind {
         0x1000 => Body::Objects {
             source: 2,
@@ -28,9 +33,9 @@ fn body_of(alloc: Global, kind: u16) -> Body {
         _ => Body::Security {
             cause: 7,
             severity: 4,
-            detector: Value::Int { value: 0 },
-            user: Value::Int { value: 0 },
-            provider: Value::Int { value: 0 },
+            detector: zero(rt, alloc),
+            user: zero(rt, alloc),
+            provider: zero(rt, alloc),
         },
     }
 }
@@ -133,7 +138,7 @@ fn equals_its_copy(rt: &impl Abort, alloc: Global, filters: &FilterSet) -> bool 
 
 /// Whether the set asks for the notification of another type, whether it may be used, and whether its copy is equal.
 fn answers(rt: &impl Abort, alloc: Global, filters: FilterSet, other: u16) -> (bool, bool, bool) {
-    let body = body_of(alloc, other);
+    let body = body_of(rt, alloc, other);
     let notification = notification(rt, alloc, other.saturating_add(1), body);
     let asked = matches(&filters, &notification);
     drop(notification);

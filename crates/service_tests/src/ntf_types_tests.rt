@@ -1,6 +1,6 @@
 //! The edges of what notifications may hold, against the written rules.
 use crate::fixtures::notification;
-use ais_values::{Duplicate, Name, Seq, Text};
+use ais_values::{Boxed, Duplicate, Name, Seq, Text};
 use ntf_types::{
     Body, Change, Notification, Pair, StateChange, Value, check_notification, kind_of,
 };
@@ -214,6 +214,29 @@ fn checks_states(rt: HostRuntime) {
     }
 }
 
+/// A text of so many bytes, by itself in memory.
+fn boxed_text(rt: &impl Abort, alloc: Global, length: u16) -> Boxed<Value> {
+    let text = text_of(rt, alloc, length);
+    Boxed::new(alloc, Value::TextOf { text }).expect(rt, "memory")
+}
+
+/// The same as a binary.
+fn boxed_binary(rt: &impl Abort, alloc: Global, length: u16) -> Boxed<Value> {
+    let bytes = text_of(rt, alloc, length);
+    Boxed::new(alloc, Value::Binary { bytes }).expect(rt, "memory")
+}
+
+/// A number, by itself in memory.
+fn boxed_number(rt: &impl Abort, alloc: Global, value: i64) -> Boxed<Value> {
+    Boxed::new(alloc, Value::Int { value }).expect(rt, "memory")
+}
+
+/// A name, by itself in memory.
+fn boxed_name(rt: &impl Abort, alloc: Global) -> Boxed<Value> {
+    let name = Name::new(alloc, b"user").expect(rt, "memory");
+    Boxed::new(alloc, Value::NameOf { name }).expect(rt, "memory")
+}
+
 /// A security alarm with values of so many bytes.
 fn security(
     rt: &impl Abort,
@@ -226,15 +249,9 @@ fn security(
     Body::Security {
         cause: 0,
         severity,
-        detector: Value::TextOf {
-            text: text_of(rt, alloc, detector),
-        },
-        user: Value::Binary {
-            bytes: text_of(rt, alloc, user),
-        },
-        provider: Value::TextOf {
-            text: text_of(rt, alloc, provider),
-        },
+        detector: boxed_text(rt, alloc, detector),
+        user: boxed_binary(rt, alloc, user),
+        provider: boxed_text(rt, alloc, provider),
     }
 }
 
@@ -281,11 +298,9 @@ fn body_of(rt: &impl Abort, alloc: Global, kind: u16) -> Body {
         _ => Body::Security {
             cause: 1,
             severity: 5,
-            detector: Value::Int { value: -1 },
-            user: Value::NameOf {
-                name: Name::new(alloc, b"user").expect(rt, "memory"),
-            },
-            provider: Value::Int { value: 1 },
+            detector: boxed_number(rt, alloc, -1),
+            user: boxed_name(rt, alloc),
+            provider: boxed_number(rt, alloc, 1),
         },
     }
 }
