@@ -22,7 +22,7 @@ ghost use Rattle.mirror.specs.Pairing.{taken_over, confirmed, IsHeard, IsFollowe
 ghost use Rattle.mirror.specs.InsideNode.{state_in, IsOpen};
 
 use crate::hearing::{ignore, kept_reply};
-use crate::pairing::{can_join, has_room, is_next, one, restored, send};
+use crate::pairing::{can_join, has_room, is_next, one, send};
 use crate::parts::push_items;
 use crate::state::NodeState;
 use crate::{Heard, Outcome, Role, Why};
@@ -408,7 +408,7 @@ impl Node {
     {
         let number = saved.number;
         let to_peer = one(alloc, Message::JoinAck { number })?;
-        let service = restored(alloc, saved)?;
+        let service = Service::restore_fit(alloc, saved)?;
         let node = Node::start(alloc, Role::Standby, service);
         drop(replace(self, node));
         Ok(send(alloc, to_peer, None, Outcome::Joined))

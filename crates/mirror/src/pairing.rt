@@ -97,17 +97,6 @@ pub(crate) fn can_join(saved: &Boxed<Saved>) -> bool
     is_fit(saved.get())
 }
 
-/// The service of a fit value.
-pub(crate) fn restored(alloc: Global, saved: &Saved) -> Result<Service, AllocError>
-    requires { IsFit saved.now }
-    ensures { IfOk result (λ service. service ≡ saved.now) }
-{
-    match Service::restore(alloc, saved) {
-        Ok(service) => Ok(service),
-        Err(_) => Err(AllocError),
-    }
-}
-
 /// How many entries a service accepts.
 const MOST: u64 = 4_000_000_000;
 

@@ -134,16 +134,6 @@ fn service_of(alloc: Global, kept: Kept, cap: u32) -> Result<Service, AllocError
     Ok(Service { whole })
 }
 
-/// The service of a fit value.
-fn restored_service(alloc: Global, saved: &Saved) -> Result<Service, AllocError>
-    requires { IsFit saved.now }
-    ensures { IfOk result (λ service. service ≡ saved.now) }
-{
-    let kept = restoring::restored(alloc, saved)?;
-    let service = service_of(alloc, kept, saved.capacity)?;
-    Ok(service)
-}
-
 impl Service {
     /// A service that nobody has used. It begins at a time from 0 to 9,000,000,000,000,000,000, each of its subscriptions
     /// holds at most `cap` items, 1 to 256, and `wells` are the attributes of the alarm, the notification and the system stream:
@@ -174,10 +164,21 @@ impl Service {
         if !is_fit(saved) {
             return Err(RestoreAnswer::Refused);
         }
-        match restored_service(alloc, saved) {
+        match Service::restore_fit(alloc, saved) {
             Ok(service) => Ok(service),
             Err(_) => Err(RestoreAnswer::Memory),
         }
+    }
+
+    /// The service of a value that is known to be fit: it is not looked at whether it is. Beside that it is `restore`. An error is
+    /// want of memory.
+    pub fn restore_fit(alloc: Global, saved: &Saved) -> Result<Service, AllocError>
+        requires { IsFit saved.now }
+        ensures { IfOk result (λ service. service ≡ saved.now) }
+    {
+        let kept = restoring::restored(alloc, saved)?;
+        let service = service_of(alloc, kept, saved.capacity)?;
+        Ok(service)
     }
 
     /// The value that can be handed on, which is fit. The service stays as it is; an error is want of memory.

@@ -1,6 +1,6 @@
 use Rattle.std.proofs.Common.{◌∙◌}
 use Rattle.service_core.proofs.RestoringLaws.{restored-kept, restored-value}
-use Rattle.service_core.proofs.service.restored_service.Goals as goal
+use Rattle.service_core.proofs.service.Service.restore_fit.Goals as goal
 
 pub service_of-requires : goal.service_of-requires
 service_of-requires c =
