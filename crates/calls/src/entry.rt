@@ -1,6 +1,6 @@
 //! What a service accepts, and the items that it holds for a client.
-use crate::{Call, Shared};
-use ais_values::{Boxed, Duplicate};
+use crate::Call;
+use ais_values::{Boxed, Duplicate, Shared};
 use std::alloc::{AllocError, Global};
 use sub_queue::Item;
 

@@ -8,9 +8,8 @@ mod history;
 mod law;
 mod reply;
 mod saved;
-mod shared;
 
-pub use ais_values::Boxed;
+pub use ais_values::{Boxed, Shared};
 pub use call::{Ask, Call};
 pub use entry::{Entry, Held};
 pub use going::{let_entries_go, let_entry_go, let_history_go};
@@ -18,4 +17,3 @@ pub use history::History;
 pub use law::law_of_equality;
 pub use reply::{Callback, Reply};
 pub use saved::{Saved, SavedAlarm, SavedReader, SavedStream, SavedSub, SavedWindow};
-pub use shared::Shared;

@@ -1,7 +1,7 @@
 //! A value that several owners share.
 ghost use Rattle.std.specs.Prelude.{◌≡◌, IfOk};
 
-use ais_values::Duplicate;
+use crate::Duplicate;
 use std::alloc::{AllocError, Global};
 use std::marker::Model;
 use std::rc::Rc;
