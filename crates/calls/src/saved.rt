@@ -1,6 +1,6 @@
 //! The value of a service, as it is handed on.
 use crate::Reply;
-use ais_values::{Duplicate, Seq};
+use ais_values::{Duplicate, Seq, Shared};
 use ntf_filters::FilterSet;
 use ntf_types::Notification;
 use std::alloc::{AllocError, Global};
@@ -70,7 +70,7 @@ pub struct SavedSub {
     /// The number of the call that made it.
     pub key: u32,
     pub id: u32,
-    pub filters: FilterSet,
+    pub filters: Shared<FilterSet>,
     /// The number of the first item that is held.
     pub first: u32,
     pub held: Seq<Content>,

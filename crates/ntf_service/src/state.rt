@@ -16,7 +16,7 @@ use crate::plan::{SendPlan, make_offers};
 use crate::rooms::{all_places, make_room};
 use crate::searching::{find_at, has_id, have_numbers_left, is_key_above, kept_at};
 use crate::subscription::Subscription;
-use ais_values::{Boxed, Duplicate, Status};
+use ais_values::{Duplicate, Shared, Status};
 use arrayvec::ArrayVec;
 use client_set::ClientSet;
 use ntf_filters::FilterSet;
@@ -85,7 +85,7 @@ fn subscription(
         told kept ≡ sub_with (sub_of client key id filters.now) (empty_queue cap)) }
 {
     let queue = SubQueue::new(alloc, cap)?;
-    let filters = Boxed::new(alloc, filters.copy(alloc)?)?;
+    let filters = Shared::new(alloc, filters.copy(alloc)?)?;
     Ok(Subscription {
         client,
         key,

@@ -1,5 +1,5 @@
 //! A subscription as it is kept.
-use ais_values::Boxed;
+use ais_values::Shared;
 use ntf_filters::FilterSet;
 use sub_queue::SubQueue;
 
@@ -10,6 +10,6 @@ pub struct Subscription {
     pub client: u16,
     pub key: u32,
     pub id: u32,
-    pub filters: Boxed<FilterSet>,
+    pub filters: Shared<FilterSet>,
     pub queue: SubQueue,
 }

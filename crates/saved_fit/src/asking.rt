@@ -2,6 +2,7 @@
 ghost use Rattle.std.specs.Prelude.{◌≡◌, ◌==◌, ◌<◌, ◌≤◌, ◌↔◌, IsTrue, MatchOption, find, length, option_copied, nat_lt};
 ghost use Rattle.std.specs.List.{list_any};
 ghost use Rattle.ais_values.specs.Codes.{all_differ};
+ghost use Rattle.ntf_filters.specs.Fit.{IsFit as AreFit};
 ghost use Rattle.calls.specs.declared.saved.SavedWindow.{SavedWindow as WindowOf};
 ghost use Rattle.client_set.specs.Rising.{IsRising};
 ghost use Rattle.plain_service.specs.Fitness.{HasCalled, IsFitSub, is_sub_before, have_one_id, HaveFitWindows, HaveFitSubs, IsFitReader, HaveFitReaders};
@@ -10,7 +11,9 @@ ghost use Rattle.saved_fit.specs.Asking.{clients_of, IsCutAt, IsFull, HasNumbers
 use crate::clients::{are_clients, are_readers_of_clients, is_among};
 use crate::judging::{Judged, all_fit};
 use crate::rising::are_rising;
+use ais_values::Shared;
 use calls::{Saved, SavedReader, SavedSub, SavedWindow};
+use ntf_filters::FilterSet;
 use ntf_service::{asks_for_alarms, is_usable};
 
 /// How many windows stand before that of a client, by halving.
@@ -74,6 +77,13 @@ fn has_numbers(number: u64, capacity: u32, sub: &SavedSub) -> bool
     sub.first >= 1 && held <= u64::from(capacity) && u64::from(sub.first) + held <= number + 1
 }
 
+/// Whether filters that are shared may be used.
+fn are_usable(filters: &Shared<FilterSet>) -> bool
+    ensures { IsTrue result ↔ AreFit filters.now }
+{
+    is_usable(filters.get())
+}
+
 /// Whether a subscription is fit, of a value whose windows and users rise and whose entries are not too many.
 fn is_fit_sub(saved: &Saved, sub: &SavedSub) -> bool
     requires windows { IsRising nat_lt (clients_of saved.now.windows) }
@@ -83,7 +93,7 @@ fn is_fit_sub(saved: &Saved, sub: &SavedSub) -> bool
 {
     is_among(saved.ntf_users.as_slice(), sub.client)
         && has_called(saved, sub.client, sub.key)
-        && is_usable(&sub.filters)
+        && are_usable(&sub.filters)
         && has_numbers(saved.number, saved.capacity, sub)
         && is_full(saved.capacity, sub)
 }

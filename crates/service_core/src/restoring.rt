@@ -11,7 +11,7 @@ ghost use Rattle.service_core.specs.Restoring.{states_in, openers_in, marks_in, 
 use crate::kept::Kept;
 use crate::parts::Parts;
 use crate::saving::copied;
-use ais_values::{Boxed, Duplicate, Seq, both};
+use ais_values::{Duplicate, Seq, both};
 use alarm_view::{AlarmView, KeptAlarm};
 use calls::{Saved, SavedAlarm, SavedStream, SavedSub, SavedWindow};
 use client_window::Window;
@@ -76,7 +76,7 @@ fn restored_sub(alloc: Global, cap: u32, sub: &SavedSub) -> Result<Subscription,
     let held = sub.held.copy(alloc)?;
     let lost = sub.lost.copy(alloc)?;
     let queue = SubQueue::rebuild(alloc, cap, sub.first, held, lost)?;
-    let filters = Boxed::new(alloc, sub.filters.copy(alloc)?)?;
+    let filters = sub.filters.copy(alloc)?;
     Ok(Subscription {
         client: sub.client,
         key: sub.key,

@@ -185,7 +185,7 @@ fn push_sub(alloc: Global, subs: &mut Seq<SavedSub>, sub: &Subscription) -> Resu
 {
     let held = contents_of(alloc, &sub.queue)?;
     let lost = copied(alloc, sub.queue.lost())?;
-    let filters = sub.filters.get().copy(alloc)?;
+    let filters = sub.filters.copy(alloc)?;
     subs.push(SavedSub {
         client: sub.client,
         key: sub.key,

@@ -3,7 +3,7 @@ use super::plan::{
     ALARMS_BY_SOURCE, AlarmPlan, EMPTY, HALT, NONE, OBJECTS_BY_CAUSE, OBJECTS_TOO, Plan,
     ReaderPlan, StreamPlan, SubPlan, WRAP, WindowPlan, reader, stream, sub,
 };
-use ais_values::{ClassId, Name, Seq, Text};
+use ais_values::{ClassId, Name, Seq, Shared, Text};
 use calls::{Reply, Saved, SavedAlarm, SavedReader, SavedStream, SavedSub, SavedWindow};
 use ntf_filters::{Filter, FilterSet};
 use ntf_types::{Body, Notification};
@@ -228,6 +228,10 @@ fn filters(rt: &impl Abort, alloc: Global, code: u8) -> FilterSet {
     }
 }
 
+fn shared_filters(rt: &impl Abort, alloc: Global, code: u8) -> Shared<FilterSet> {
+    Shared::new(alloc, filters(rt, alloc, code)).expect(rt, "memory")
+}
+
 fn lost(rt: &impl Abort, alloc: Global, count: u32) -> Seq<Lost> {
     let mut list = Seq::new(alloc);
     for place in 0..count {
@@ -256,7 +260,7 @@ fn built_sub(rt: &impl Abort, alloc: Global, plan: &SubPlan) -> SavedSub {
         client: plan.client,
         key: plan.key,
         id: plan.id,
-        filters: filters(rt, alloc, plan.filters),
+        filters: shared_filters(rt, alloc, plan.filters),
         first: plan.first,
         held: held(rt, alloc, plan.held),
         lost: lost(rt, alloc, plan.lost),
