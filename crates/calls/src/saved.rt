@@ -99,7 +99,7 @@ impl Drop for SavedSub {
 #[derive(PartialEq)]
 pub struct SavedReader {
     pub client: u16,
-    pub filters: FilterSet,
+    pub filters: Shared<FilterSet>,
     pub time: i64,
     pub id: u64,
     /// Nothing was read since it began.

@@ -3,6 +3,7 @@ ghost use Rattle.std.specs.Prelude.{◌≡◌, ◌==◌, ◌<◌, ◌≤◌, ◌
 ghost use Rattle.std.specs.List.{list_any};
 ghost use Rattle.ais_values.specs.Codes.{all_differ};
 ghost use Rattle.ntf_filters.specs.Fit.{IsFit as AreFit};
+ghost use Rattle.ntf_history.specs.Rows.{asks_for_alarms};
 ghost use Rattle.calls.specs.declared.saved.SavedWindow.{SavedWindow as WindowOf};
 ghost use Rattle.client_set.specs.Rising.{IsRising};
 ghost use Rattle.plain_service.specs.Fitness.{HasCalled, IsFitSub, is_sub_before, have_one_id, HaveFitWindows, HaveFitSubs, IsFitReader, HaveFitReaders};
@@ -82,6 +83,13 @@ fn are_usable(filters: &Shared<FilterSet>) -> bool
     ensures { IsTrue result ↔ AreFit filters.now }
 {
     is_usable(filters.get())
+}
+
+/// Whether filters that are shared ask for alarms and security alarms alone.
+fn ask_for_alarms(filters: &Shared<FilterSet>) -> bool
+    ensures { result ≡ asks_for_alarms filters.now }
+{
+    asks_for_alarms(filters.get())
 }
 
 /// Whether a subscription is fit, of a value whose windows and users rise and whose entries are not too many.
@@ -169,8 +177,8 @@ fn is_fit_reader(saved: &Saved, reader: &SavedReader) -> bool
     ensures { IsTrue result ↔ IsFitReader saved.now reader.now }
 {
     is_among(saved.ntf_users.as_slice(), reader.client)
-        && is_usable(&reader.filters)
-        && asks_for_alarms(&reader.filters)
+        && are_usable(&reader.filters)
+        && ask_for_alarms(&reader.filters)
 }
 
 impl Judged for SavedReader {

@@ -16,7 +16,7 @@ ghost use Rattle.service_parts.specs.Telling.{IsTold, reader_at};
 
 use crate::Told;
 use crate::readers::{add_reader, point_of, reader_of, stop_reader, tell_reader};
-use ais_values::{Duplicate, Status};
+use ais_values::{Duplicate, Shared, Status};
 use alarm_view::{AlarmView, Cursor, Direction, SearchMode};
 use calls::{Boxed, Reply, SavedReader};
 use ntf_filters::FilterSet;
@@ -114,7 +114,7 @@ fn begin_at(
         (reader_at client filters.now cursor) readers.old.items) }
     ensures err { OnErr result (readers.new.items ≡ readers.old.items) }
 {
-    let filters = filters.copy(alloc)?;
+    let filters = Shared::new(alloc, filters.copy(alloc)?)?;
     let reader = SavedReader {
         client,
         filters,
@@ -196,7 +196,7 @@ fn next_read<'a>(
     let Some(way) = Direction::of(code) else {
         return None;
     };
-    next_in(alarms, point_of(reader), way, &reader.filters)
+    next_in(alarms, point_of(reader), way, reader.filters.get())
 }
 
 /// Whether the code is that of no direction.

@@ -114,7 +114,7 @@ fn one_reader(rt: &impl Abort, alloc: Global) -> Seq<SavedReader> {
     let mut readers = Seq::new(alloc);
     let reader = SavedReader {
         client: 1,
-        filters: no_filters(),
+        filters: Shared::new(alloc, no_filters()).expect(rt, "memory"),
         time: 5,
         id: 6,
         fresh: true,

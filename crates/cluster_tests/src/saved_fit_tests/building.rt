@@ -283,7 +283,7 @@ fn subs(rt: &impl Abort, alloc: Global, plans: &[SubPlan], more: u32) -> Seq<Sav
 fn built_reader(rt: &impl Abort, alloc: Global, plan: &ReaderPlan) -> SavedReader {
     SavedReader {
         client: plan.client,
-        filters: filters(rt, alloc, plan.filters),
+        filters: shared_filters(rt, alloc, plan.filters),
         time: 0,
         id: 0,
         fresh: true,
