@@ -9,6 +9,7 @@ ghost use Rattle.alarm_view.specs.Inside.{IsIndexed};
 use crate::KeptAlarm;
 use crate::place::{Place, cut_before, place_of};
 use crate::search::count_below;
+use ais_values::Shared;
 use ntf_types::Notification;
 use std::collections::VecDeque;
 
@@ -26,7 +27,7 @@ pub(crate) fn add_reserved(
     alarms: &mut VecDeque<KeptAlarm>,
     order: &mut Vec<Place>,
     number: u32,
-    notification: Notification,
+    notification: Shared<Notification>,
 )
     requires indexed { IsIndexed alarms.old.items order.old.items }
     requires can { CanAdd number notification alarms.old.items }

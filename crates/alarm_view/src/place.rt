@@ -1,10 +1,12 @@
 //! Where alarms stand in their order.
 ghost use Rattle.std.specs.Prelude.{◌≡◌};
 ghost use Rattle.std.specs.Ordering.{is_lt};
+ghost use Rattle.alarm_view.specs.Alarms.{kept_alarm};
 ghost use Rattle.alarm_view.specs.Order.{is_older};
 ghost use Rattle.alarm_view.specs.Inside.{place_of, place_first, point_in, is_below};
 
 use crate::KeptAlarm;
+use ntf_types::Notification;
 use std::cmp::Ordering;
 
 /// Where an alarm stands in the order of alarms, and the number of its record.
@@ -49,15 +51,22 @@ pub(crate) fn compare(one: &Place, other: &Place) -> Ordering
     }
 }
 
+/// The place of an alarm with this number of its record.
+fn place_at(number: u32, alarm: &Notification) -> Place
+    ensures { result ≡ place_of (kept_alarm number alarm.now) }
+{
+    Place {
+        time: alarm.event_time,
+        id: alarm.id,
+        number,
+    }
+}
+
 /// The place of an alarm.
 pub(crate) fn place_of(alarm: &KeptAlarm) -> Place
     ensures { result ≡ place_of alarm.now }
 {
-    Place {
-        time: alarm.notification.event_time,
-        id: alarm.notification.id,
-        number: alarm.number,
-    }
+    place_at(alarm.number, alarm.notification.get())
 }
 
 /// The cut at a place.

@@ -1,5 +1,5 @@
 //! Searches among alarms: from a place in their order on, the first that the filters ask for.
-ghost use Rattle.std.specs.Prelude.{◌≡◌, ◌≢◌, ◌≤◌, pos, length, option_copied, MatchOption};
+ghost use Rattle.std.specs.Prelude.{◌≡◌, ◌≢◌, ◌≤◌, nat_lt, pos, length, option_copied, MatchOption};
 ghost use Rattle.ntf_filters.specs.Matching.{matches};
 ghost use Rattle.client_set.specs.Members.{Stands};
 ghost use Rattle.client_set.specs.Rising.{IsRising};
@@ -24,18 +24,33 @@ pub(crate) fn count_below(order: &[Place], cut: Cut) -> usize
     order.partition_point(|place| is_below(cut, place))
 }
 
+/// The id of an alarm.
+fn id_of(alarm: &KeptAlarm) -> u64
+    ensures { result ≡ alarm.now.notification.id }
+{
+    alarm.notification.get().id
+}
+
+/// Whether the id of an alarm is below another one.
+fn has_id_below(alarm: &KeptAlarm, id: u64) -> bool
+    ensures { result ≡ nat_lt alarm.now.notification.id id }
+{
+    id_of(alarm) < id
+}
+
 /// The alarm of an id, if it is kept.
 fn of_id(alarms: &VecDeque<KeptAlarm>, id: u64) -> Option<&KeptAlarm>
     requires { AreInOrder alarms.now.items }
     ensures { MatchOption result (LacksId id alarms.now.items)
         (λ alarm. IsOfId id alarms.now.items alarm.now) }
 {
-    let place = alarms.partition_point(|alarm| alarm.notification.id < id);
+    let place = alarms.partition_point(|alarm| has_id_below(alarm, id));
     if place >= alarms.len() {
         return None;
     }
     let alarm = &alarms[place];
-    if alarm.notification.id != id {
+    let found = id_of(alarm);
+    if found != id {
         return None;
     }
     Some(alarm)
@@ -46,6 +61,13 @@ fn is_asked_for(filters: &FilterSet, alarm: &Notification) -> bool
     ensures { result ≡ matches filters.now alarm.now }
 {
     matches(filters, alarm)
+}
+
+/// Whether the filters ask for an alarm that is kept.
+fn asks_for(filters: &FilterSet, kept: &KeptAlarm) -> bool
+    ensures { result ≡ matches filters.now kept.now.notification }
+{
+    is_asked_for(filters, kept.notification.get())
 }
 
 /// The alarm of a place, if the filters ask for it.
@@ -62,8 +84,8 @@ fn asked_at<'a>(
     let Some(alarm) = of_id(alarms, place.id) else {
         return None;
     };
-    if is_asked_for(filters, &alarm.notification) {
-        Some(&alarm.notification)
+    if asks_for(filters, alarm) {
+        Some(alarm.notification.get())
     } else {
         None
     }
@@ -201,8 +223,8 @@ fn start_of_id<'a>(
     let Some(alarm) = of_id(alarms, id) else {
         return None;
     };
-    if is_asked_for(filters, &alarm.notification) {
-        Some(&alarm.notification)
+    if asks_for(filters, alarm) {
+        Some(alarm.notification.get())
     } else {
         None
     }

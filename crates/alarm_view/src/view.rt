@@ -8,6 +8,7 @@ use crate::place::Place;
 use crate::rebuilding::order_of;
 use crate::search::{next_in, start_in};
 use crate::{Cursor, Direction, KeptAlarm, SearchMode};
+use ais_values::Shared;
 use ntf_filters::FilterSet;
 use ntf_types::Notification;
 use std::alloc::{AllocError, Global};
@@ -67,7 +68,7 @@ impl AlarmView {
 
     /// Adds the alarm of record `number` of the alarm stream. On an error, which is want of memory, no alarm
     /// is added.
-    pub fn add(&mut self, number: u32, notification: Notification) -> Result<(), AllocError>
+    pub fn add(&mut self, number: u32, notification: Shared<Notification>) -> Result<(), AllocError>
         requires { CanAdd number notification self.old.kept }
         ensures ok { OnOk result
             (self.new.kept ≡ self.old.kept ++ kept_alarm number notification ∷ []) }
@@ -91,7 +92,7 @@ impl AlarmView {
 
     /// Adds the alarm of record `number` of the alarm stream, as `add` does, into room that was made for
     /// it. It takes no memory.
-    pub fn add_reserved(&mut self, number: u32, notification: Notification)
+    pub fn add_reserved(&mut self, number: u32, notification: Shared<Notification>)
         requires room { 1 ≤ self.old.spare }
         requires can { CanAdd number notification self.old.kept }
         ensures { self.new.kept ≡ self.old.kept ++ kept_alarm number notification ∷ [] }
@@ -154,7 +155,7 @@ impl AlarmView {
 
     /// The alarm at a place, from 0, in order of records, with the number of its record. None
     /// exactly where fewer are kept.
-    pub fn alarm_at(&self, place: u32) -> Option<(u32, &Notification)>
+    pub fn alarm_at(&self, place: u32) -> Option<(u32, &Shared<Notification>)>
         ensures { MatchOption result (slice_get self.now.kept place ≡ None)
             (λ found. slice_get self.now.kept place ≡ Some (kept_alarm found.0 found.1.now)) }
     {

@@ -52,7 +52,7 @@ impl Drop for SavedStream {
 #[derive(PartialEq)]
 pub struct SavedAlarm {
     pub k: u32,
-    pub notification: Notification,
+    pub notification: Shared<Notification>,
 }
 
 // Written out, as a derived one is proved anew in each crate that lets such a value go.

@@ -3,3 +3,4 @@ pub mod Files
 pub mod Filling
 pub mod Streams
 pub mod Asking
+pub mod Alarms

@@ -5,12 +5,13 @@ ghost use Rattle.client_set.specs.Rising.{IsRising};
 ghost use Rattle.stream_config.specs.Attributes.{IsSized};
 ghost use Rattle.calls.specs.declared.saved.SavedStream.{SavedStream as StreamOf};
 ghost use Rattle.plain_service.specs.Fitness.{IsFitStream, IsStanding, IsFitAlarm, is_record_before, is_id_before, HaveFitAlarms};
+ghost use Rattle.saved_fit.specs.Alarms.{WasSent};
 
 use crate::judging::{Judged, all_fit};
 use crate::rising::{are_rising, ids_rise};
 use calls::{Saved, SavedAlarm};
 use ntf_service::is_alarm;
-use ntf_types::check_notification;
+use ntf_types::{Notification, check_notification};
 use stream_config::{StreamState, first_standing};
 
 /// Whether the record of this number stands in the files of a stream.
@@ -33,16 +34,29 @@ fn stands(saved: &Saved, number: u32) -> bool
     }
 }
 
+/// Whether a notification is an alarm that was sent, where the last id is this one.
+fn was_sent(last_id: u64, notification: &Notification) -> bool
+    ensures { IsTrue result ↔ WasSent last_id notification.now }
+{
+    notification.id <= last_id
+        && is_alarm(&notification.body)
+        && check_notification(notification).is_ok()
+        && notification.event_time >= 0
+}
+
+/// Whether this holds of a stored alarm.
+fn is_sent(last_id: u64, alarm: &SavedAlarm) -> bool
+    ensures { IsTrue result ↔ WasSent last_id alarm.now.notification }
+{
+    was_sent(last_id, alarm.notification.get())
+}
+
 /// Whether a stored alarm is fit, of a value whose streams are fit.
 fn is_fit_alarm(saved: &Saved, alarm: &SavedAlarm) -> bool
     requires { AllByRecursion (IsFitStream saved.now) saved.now.streams }
     ensures { IsTrue result ↔ IsFitAlarm saved.now alarm.now }
 {
-    stands(saved, alarm.k)
-        && alarm.notification.id <= saved.last_id
-        && is_alarm(&alarm.notification.body)
-        && check_notification(&alarm.notification).is_ok()
-        && alarm.notification.event_time >= 0
+    stands(saved, alarm.k) && is_sent(saved.last_id, alarm)
 }
 
 impl Judged for SavedAlarm {

@@ -82,13 +82,20 @@ pub(crate) fn are_rising<T: Ordered>(items: &[T]) -> bool
     true
 }
 
-/// Whether an id is above the last one, if there is one.
-fn is_above(last: Option<u64>, id: u64) -> bool
-    ensures { result ≡ is_above last id }
+/// The id of a stored alarm.
+fn id_of(alarm: &SavedAlarm) -> u64
+    ensures { result ≡ alarm.now.notification.id }
+{
+    alarm.notification.get().id
+}
+
+/// Whether the id of a stored alarm is above the last one, if there is one.
+fn is_above(last: Option<u64>, alarm: &SavedAlarm) -> bool
+    ensures { result ≡ is_above last alarm.now.notification.id }
 {
     match last {
         None => true,
-        Some(last) => last < id,
+        Some(last) => last < id_of(alarm),
     }
 }
 
@@ -98,10 +105,10 @@ pub(crate) fn ids_rise(alarms: &[SavedAlarm]) -> bool
 {
     let mut last = None;
     for alarm in alarms {
-        if !is_above(last, alarm.notification.id) {
+        if !is_above(last, alarm) {
             return false;
         }
-        last = Some(alarm.notification.id);
+        last = Some(id_of(alarm));
     }
     true
 }

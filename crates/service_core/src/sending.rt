@@ -26,7 +26,7 @@ ghost use Rattle.stream_layout.specs.Carrying.{IsFitEvent};
 use crate::deeds::deeds_of_all;
 use crate::parts::{Acted, Parts, act_of};
 use crate::writing::keep_standing;
-use ais_values::{Duplicate, Seq, Status, StreamKind};
+use ais_values::{Duplicate, Seq, Shared, Status, StreamKind};
 use alarm_view::AlarmView;
 use log_service::{LogPlan, LogState};
 use ntf_service::{NtfState, is_alarm};
@@ -94,13 +94,14 @@ fn reserve_alarm(
     alarms: &mut AlarmView,
     alloc: Global,
     sent: &Notification,
-) -> Result<Notification, AllocError>
+) -> Result<Shared<Notification>, AllocError>
     ensures alarm { IfOk result (λ alarm. alarm ≡ sent.now) }
     ensures room { OnOk result (1 ≤ alarms.new.spare) }
     ensures kept { alarms.new.kept ≡ alarms.old.kept }
 {
     alarms.reserve(alloc)?;
-    sent.copy(alloc)
+    let alarm = Shared::new(alloc, sent.copy(alloc)?)?;
+    Ok(alarm)
 }
 
 /// Offers a notification, and keeps it where it is an alarm, of which the record has this number. The answer is its

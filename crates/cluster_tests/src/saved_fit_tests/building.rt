@@ -174,7 +174,7 @@ fn alarms(rt: &impl Abort, alloc: Global, plans: &[AlarmPlan]) -> Seq<SavedAlarm
     for plan in plans {
         let alarm = SavedAlarm {
             k: plan.k,
-            notification: notification(rt, alloc, plan),
+            notification: Shared::new(alloc, notification(rt, alloc, plan)).expect(rt, "memory"),
         };
         list.push(alarm).expect(rt, "memory");
     }

@@ -18,10 +18,10 @@ pub returns-then-place-len : goal.returns-then-place-len
 returns-then-place-len c =
     lacks-behind c.args.id c.args.alarms.now.items c.requires c.partition_point-place.result (point (goal.at.returns-then-place-len c).After-partition_point-place) (omega (arith, c.len.ensures, c.args.alarms.now.ok.0, c.if-place-len.true))
 
-pub returns-then-alarm-id : goal.returns-then-alarm-id
-returns-then-alarm-id c =
+pub returns-then-found-id : goal.returns-then-found-id
+returns-then-found-id c =
     let within : c.partition_point-place.result < length c.args.alarms.now.items = omega (arith, c.len.ensures, c.args.alarms.now.ok.0, c.if-place-len.false) in
-    lacks-other c.args.id c.args.alarms.now.items c.requires c.partition_point-place.result (point (goal.at.returns-then-alarm-id c).After-partition_point-place) c.index-alarm.result.now within (λ same. c.if-alarm-id.true (ap (λ (x : KeptAlarm). x.notification.id) c.index-alarm.ensures ∙ same))
+    lacks-other c.args.id c.args.alarms.now.items c.requires c.partition_point-place.result (point (goal.at.returns-then-found-id c).After-partition_point-place) c.index-alarm.result.now within (λ same. c.if-found-id.true (c.id_of-found.ensures ∙ ap (λ (x : KeptAlarm). x.notification.id) c.index-alarm.ensures ∙ same))
 
 pub returns : goal.returns
 returns c =
@@ -29,5 +29,5 @@ returns c =
     let P : KeptAlarm → Type 0 = λ x. Stands x c.args.alarms.now.items in
     record {
       stands = subst P (sym c.index-alarm.ensures) (Stands-get_or c.args.alarms.now.items c.partition_point-place.result c.index-alarm.result.now within);
-      same = c.if-alarm-id.false;
+      same = sym c.id_of-found.ensures ∙ c.if-found-id.false;
     }
