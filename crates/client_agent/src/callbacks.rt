@@ -107,7 +107,7 @@ pub fn callback_of_item(alloc: Global, id: u32, content: &Content) -> Result<Cal
     match content {
         Content::Notified { notification } => Ok(Callback::Notified {
             id,
-            notification: Boxed::new(alloc, notification.copy(alloc)?)?,
+            notification: Boxed::new(alloc, notification.get().copy(alloc)?)?,
         }),
         Content::Discarded { lost } => Ok(Callback::Discarded {
             id,

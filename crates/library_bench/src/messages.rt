@@ -81,7 +81,7 @@ fn message_of(alloc: Global, number: u32) -> Result<Message, AllocError>
             Ok(Message::Reply { client, seq, reply })
         }
         _ => {
-            let notification = alarm_of(alloc, number)?;
+            let notification = Shared::new(alloc, alarm_of(alloc, number)?)?;
             let content = Content::Notified { notification };
             let item = Item {
                 number: seq,

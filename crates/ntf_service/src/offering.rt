@@ -10,24 +10,24 @@ ghost use Rattle.sub_queue.specs.Queue.{offered};
 
 use crate::plan::{Offer, Share};
 use crate::subscription::Subscription;
-use ais_values::Duplicate;
+use ais_values::{Duplicate, Shared};
 use ntf_filters::{FilterSet, matches};
 use ntf_types::Notification;
 use std::alloc::{AllocError, Global};
 use sub_queue::{SubQueue, mark_of};
 
 /// Whether the filters ask for a notification.
-fn is_asked_for(filters: &FilterSet, notification: &Notification) -> bool
+fn is_asked_for(filters: &FilterSet, notification: &Shared<Notification>) -> bool
     ensures { result ≡ matches filters.now notification.now }
 {
-    matches(filters, notification)
+    matches(filters, notification.get())
 }
 
-/// The share of a queue in a notification: a copy where a place is free, and else the mark, which takes no memory.
+/// The share of a queue in a notification: all of it where a place is free, and else the mark.
 fn share_of(
     alloc: Global,
     queue: &SubQueue,
-    notification: &Notification,
+    notification: &Shared<Notification>,
 ) -> Result<Share, AllocError>
     ensures suits { IfOk result (λ share. Suits share queue.now.queue) }
     ensures made { IfOk result (λ share.
@@ -47,7 +47,7 @@ fn offer_to(
     alloc: Global,
     place: usize,
     queue: &SubQueue,
-    notification: &Notification,
+    notification: &Shared<Notification>,
 ) -> Result<Offer, AllocError>
     ensures { IfOk result (IsOffer place notification.now queue.now.queue) }
 {
@@ -62,7 +62,7 @@ fn add_offer(
     offers: &mut Vec<Offer>,
     place: usize,
     kept: &Subscription,
-    notification: &Notification,
+    notification: &Shared<Notification>,
 ) -> Result<(), AllocError>
     requires { vec_len offers.old < vec_capacity offers.old }
     ensures joins { OnOk result (Joins (matches kept.now.filters notification.now)
@@ -83,7 +83,7 @@ pub(crate) fn offers_for(
     alloc: Global,
     subs: &[Subscription],
     places: &[u8],
-    notification: &Notification,
+    notification: &Shared<Notification>,
 ) -> Result<Vec<Offer>, AllocError>
     requires places { RiseBetween 0 (length subs.now) places.now }
     requires numbers { HaveNumbersLeft (all_told subs.now) }

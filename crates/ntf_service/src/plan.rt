@@ -8,6 +8,7 @@ ghost use Rattle.ntf_service.specs.Rooms.{HaveRoomsBut, RoomsStayBut};
 
 use crate::rooms::lack_at;
 use crate::subscription::Subscription;
+use ais_values::Shared;
 use arrayvec::ArrayVec;
 use ntf_types::Notification;
 use sub_queue::{Lost, SubQueue};
@@ -15,7 +16,7 @@ use sub_queue::{Lost, SubQueue};
 /// What a queue gets of a notification: all of it, or its mark alone, where it finds no place.
 #[derive(Drop)]
 pub(crate) enum Share {
-    Whole { notification: Notification },
+    Whole { notification: Shared<Notification> },
     Mark { mark: Lost },
 }
 

@@ -248,21 +248,42 @@ impl NtfState {
 
     /// The plan of `send` for the state as it is, of a notification that has the next id. Of the subscriptions only
     /// those are looked at that have a filter of the notification's type. An error is want of memory.
-    fn send_plan(&self, alloc: Global, notification: &Notification) -> Result<SendPlan, AllocError>
+    fn send_plan(
+        &self,
+        alloc: Global,
+        notification: &Shared<Notification>,
+    ) -> Result<SendPlan, AllocError>
         requires can { CanSendMore self.now.table }
         requires named { with_id (self.now.table.last_id + 1) notification.now
             ≡ notification.now }
         ensures { IfOk result (PlansSend self.now.table notification.now) }
     {
         let id = self.last_id + 1;
-        let places = self.by_kind.places(kind_for(&notification.body));
+        let places = self.by_kind.places(kind_for(&notification.get().body));
         let offers = offers_for(alloc, self.subs.as_slice(), places, notification)?;
         Ok(SendPlan { id, offers })
     }
 
-    /// Plans `send` of a notification that is lent and has the next id already: of it only the shares of subscriptions are
-    /// copied. Beside that it is `plan_send`. An error is want of memory; the state stays as it is then too.
-    pub fn plan_lent(
+    /// Plans `send` of a notification that has the next id already, and is shared with the subscriptions that ask for it. Beside
+    /// that it is `plan_send`. An error is want of memory; the state stays as it is then too.
+    pub fn plan_shared(
+        &mut self,
+        alloc: Global,
+        notification: &Shared<Notification>,
+    ) -> Result<SendPlan, AllocError>
+        requires can { CanSendMore self.old.table }
+        requires named { with_id (self.old.table.last_id + 1) notification.now
+            ≡ notification.now }
+        ensures ok { IfOk result (PlansSend self.old.table notification.now) }
+        ensures table { self.new.table ≡ self.old.table }
+        ensures room { OnOk result (1 ≤ self.new.spare) }
+    {
+        self.make_room(alloc)?;
+        self.send_plan(alloc, notification)
+    }
+
+    // The same of a notification that is lent: a copy of it is shared.
+    fn plan_lent(
         &mut self,
         alloc: Global,
         notification: &Notification,
@@ -274,8 +295,12 @@ impl NtfState {
         ensures table { self.new.table ≡ self.old.table }
         ensures room { OnOk result (1 ≤ self.new.spare) }
     {
-        self.make_room(alloc)?;
-        self.send_plan(alloc, notification)
+        let copy = notification.copy(alloc)?;
+        let shared = Shared::new(alloc, copy)?;
+        let planned = self.plan_shared(alloc, &shared);
+        drop(shared);
+        let plan = planned?;
+        Ok(plan)
     }
 
     /// Plans `send`: what it gives and makes of the state, with a share of the notification for each subscription that

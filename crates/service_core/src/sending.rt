@@ -14,7 +14,7 @@ ghost use Rattle.ntf_history.specs.StoredAlarms.{is_alarm};
 ghost use Rattle.ntf_history.specs.Tables.{after_send, with_id};
 ghost use Rattle.ntf_service.specs.State.{CanSendMore};
 ghost use Rattle.ntf_types.specs.SoundTests.{is_sound};
-ghost use Rattle.plain_service.specs.Alarms.{stream_for, accepted_as};
+ghost use Rattle.plain_service.specs.Alarms.{stream_for, accepted_as, record_for};
 ghost use Rattle.service_fit.specs.Conditions.{CanCall, CanCallLog};
 ghost use Rattle.service_table.specs.Answering.{status_in};
 ghost use Rattle.service_table.specs.Steps.{alarms_with};
@@ -31,6 +31,7 @@ use alarm_view::AlarmView;
 use log_service::{LogPlan, LogState};
 use ntf_service::{NtfState, is_alarm};
 use ntf_types::{Notification, check_notification};
+use record_print::LogRecord;
 use service_parts::{Told, accepted, record_for};
 use std::alloc::{AllocError, Global};
 
@@ -89,29 +90,51 @@ fn alarm_number(log: &LogState) -> u32
     }
 }
 
-/// A copy of the alarm that is to be kept, for which there is room among those kept then; these stay as they are.
+/// The kind of the stream that stores the record of a notification that was accepted.
+fn kind_of_sent(sent: &Shared<Notification>) -> StreamKind
+    ensures stream { stream_of_kind result ≡ stream_for sent.now.body }
+    ensures notified { is_notified result ≡ true }
+{
+    kind_for(sent.get())
+}
+
+/// The record of a notification that was accepted at a moment.
+fn record_of(alloc: Global, now: i64, sent: &Shared<Notification>) -> Result<LogRecord, AllocError>
+    ensures { IfOk result (λ rec. rec ≡ record_for now sent.now) }
+{
+    let rec = record_for(alloc, now, sent.get())?;
+    Ok(rec)
+}
+
+/// Whether a notification is an alarm, which is kept.
+fn is_kept(sent: &Shared<Notification>) -> bool
+    ensures { result ≡ is_alarm sent.now.body }
+{
+    is_alarm(&sent.get().body)
+}
+
+/// The alarm that is to be kept, for which there is room among those kept then; these stay as they are.
 fn reserve_alarm(
     alarms: &mut AlarmView,
     alloc: Global,
-    sent: &Notification,
+    sent: &Shared<Notification>,
 ) -> Result<Shared<Notification>, AllocError>
     ensures alarm { IfOk result (λ alarm. alarm ≡ sent.now) }
     ensures room { OnOk result (1 ≤ alarms.new.spare) }
     ensures kept { alarms.new.kept ≡ alarms.old.kept }
 {
     alarms.reserve(alloc)?;
-    let alarm = Shared::new(alloc, sent.copy(alloc)?)?;
-    Ok(alarm)
+    sent.copy(alloc)
 }
 
-/// Offers a notification, and keeps it where it is an alarm, of which the record has this number. The answer is its
-/// id. On an error nothing changes.
+/// Offers a notification, and keeps it where it is an alarm, of which the record has this number; it is shared by all that have it
+/// then. The answer is its id. On an error nothing changes.
 fn offer_and_keep(
     ntf: &mut NtfState,
     alarms: &mut AlarmView,
     alloc: Global,
     number: u32,
-    sent: &Notification,
+    sent: &Shared<Notification>,
 ) -> Result<u64, AllocError>
     requires sending { CanSendMore ntf.old.table }
     requires add { is_alarm sent.now.body ≡ true → CanAdd number sent.now alarms.old.kept }
@@ -123,8 +146,8 @@ fn offer_and_keep(
     ensures err { OnErr result
         ((ntf.new.table ≡ ntf.old.table) × (alarms.new.kept ≡ alarms.old.kept)) }
 {
-    let plan = ntf.plan_lent(alloc, sent)?;
-    if !is_alarm(&sent.body) {
+    let plan = ntf.plan_shared(alloc, sent)?;
+    if !is_kept(sent) {
         return Ok(ntf.commit_send(plan));
     }
     match reserve_alarm(alarms, alloc, sent) {
@@ -146,7 +169,7 @@ fn send_planned(
     parts: &mut Parts,
     alloc: Global,
     plan: LogPlan,
-    sent: &Notification,
+    sent: &Shared<Notification>,
 ) -> Result<u64, AllocError>
     requires can { CanCommit parts.old.log.table plan }
     requires room { HasRoom plan parts.old.log.spare }
@@ -180,7 +203,7 @@ fn send_stored(
     parts: &mut Parts,
     alloc: Global,
     plan: LogPlan,
-    sent: &Notification,
+    sent: &Shared<Notification>,
 ) -> Result<Acted, AllocError>
     requires can { CanCommit parts.old.log.table plan }
     requires room { HasRoom plan parts.old.log.spare }
@@ -221,7 +244,7 @@ fn send_accepted(
     parts: &mut Parts,
     alloc: Global,
     now: i64,
-    sent: &Notification,
+    sent: &Shared<Notification>,
 ) -> Result<Acted, AllocError>
     requires log { CanCallLog parts.old.log.table now }
     requires sending { CanSendMore parts.old.ntf.table }
@@ -234,8 +257,8 @@ fn send_accepted(
     ensures ok { IfOk result (HasSent (table_of parts.old) now sent.now (table_of parts.new)) }
     ensures err { OnErr result (table_of parts.new ≡ table_of parts.old) }
 {
-    let rec = record_for(alloc, now, sent)?;
-    let planned = parts.log.plan_store(alloc, kind_for(sent), &rec, now);
+    let rec = record_of(alloc, now, sent)?;
+    let planned = parts.log.plan_store(alloc, kind_of_sent(sent), &rec, now);
     drop(rec);
     let plan = planned?;
     let acted = send_stored(parts, alloc, plan, sent)?;
@@ -269,7 +292,8 @@ pub(crate) fn ntf_send(
     if status != Status::Ok {
         return Ok(act_of(status, Seq::new(alloc)));
     }
-    let sent = accepted(alloc, parts.ntf.last_id() + 1, now, notification)?;
+    let copy = accepted(alloc, parts.ntf.last_id() + 1, now, notification)?;
+    let sent = Shared::new(alloc, copy)?;
     let tried = send_accepted(parts, alloc, now, &sent);
     drop(sent);
     let acted = tried?;

@@ -81,7 +81,7 @@ fn put_item(alloc: Global, held: &Held, out: &mut Vec<u8>) -> Result<(), AllocEr
     put(out, front.as_bytes())?;
     match &item.content {
         Content::Notified { notification } => {
-            let id = notification.id;
+            let id = notification.get().id;
             put_line(out, format!(in alloc; " id={id}")?)
         }
         Content::Discarded { lost } => put_lost(alloc, lost.as_slice(), out),

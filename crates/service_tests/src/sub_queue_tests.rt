@@ -1,13 +1,13 @@
 //! What no clause says: that a queue takes and gives while there is memory; worked cases of losses and receipts.
 use crate::fixtures::alarm;
-use ais_values::{Duplicate, Seq};
+use ais_values::{Duplicate, Seq, Shared};
 use ntf_types::Notification;
 use std::alloc::Global;
 use std::process::Abort;
 use sub_queue::{Content, Item, Lost, SubQueue};
 
-fn numbered(rt: &impl Abort, alloc: Global, id: u64) -> Notification {
-    alarm(rt, alloc, id, 0, 2)
+fn numbered(rt: &impl Abort, alloc: Global, id: u64) -> Shared<Notification> {
+    Shared::new(alloc, alarm(rt, alloc, id, 0, 2)).expect(rt, "memory")
 }
 
 fn offer(rt: &impl Abort, alloc: Global, queue: &mut SubQueue, id: u64) {

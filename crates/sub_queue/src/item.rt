@@ -1,5 +1,5 @@
 //! What a subscription's items hold.
-use ais_values::{Duplicate, Seq};
+use ais_values::{Duplicate, Seq, Shared};
 use ntf_types::Notification;
 use std::alloc::{AllocError, Global};
 
@@ -13,8 +13,8 @@ pub struct Lost {
 /// What an item of a subscription holds.
 #[derive(PartialEq)]
 pub enum Content {
-    /// A notification.
-    Notified { notification: Notification },
+    /// A notification, shared by all that hold it.
+    Notified { notification: Shared<Notification> },
     /// The notifications that were lost before this item, in order.
     Discarded { lost: Seq<Lost> },
 }

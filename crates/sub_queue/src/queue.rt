@@ -7,7 +7,7 @@ ghost use Rattle.ntf_types.specs.declared.notification.Notification.{Notificatio
 ghost use Rattle.sub_queue.specs.Queue.{IsCapacity, IsSound, IsNew, HasNumberLeft, empty_queue, queue_of_parts, has_room, offered, with_lost, received};
 
 use crate::{Content, Item, Lost};
-use ais_values::Seq;
+use ais_values::{Seq, Shared};
 use ntf_types::{Notification, kind_of};
 use std::alloc::{AllocError, Global};
 use std::collections::VecDeque;
@@ -63,14 +63,21 @@ fn remove_front(items: &mut VecDeque<Item>, count: usize)
     items.truncate(rest);
 }
 
-/// The type and the id of a notification, which stand for it where it is lost.
-pub fn mark_of(notification: &Notification) -> Lost
+/// The type and the id of a notification.
+fn mark_in(notification: &Notification) -> Lost
     ensures { result ≡ mark_of notification.now }
 {
     Lost {
         kind: kind_of(notification),
         id: notification.id,
     }
+}
+
+/// The type and the id of a notification, which stand for it where it is lost.
+pub fn mark_of(notification: &Shared<Notification>) -> Lost
+    ensures { result ≡ mark_of notification.now }
+{
+    mark_in(notification.get())
 }
 
 /// Adds an item of what was lost, where anything was. It takes the place of a removed one.
@@ -145,7 +152,7 @@ impl SubQueue {
 
     /// Offers a notification that matches. It becomes the next item where a place is free, which takes
     /// no memory; otherwise its type and id join those lost. On an error nothing changes.
-    pub fn offer(&mut self, notification: Notification) -> Result<(), AllocError>
+    pub fn offer(&mut self, notification: Shared<Notification>) -> Result<(), AllocError>
         requires { HasNumberLeft self.old.queue }
         ensures ok { OnOk result (self.new.queue ≡ offered notification self.old.queue) }
         ensures room { IsTrue (has_room self.old.queue) → IsOk result }
@@ -178,7 +185,7 @@ impl SubQueue {
     }
 
     /// Offers a notification that matches, as `offer` does, into room that was made for it. It takes no memory.
-    pub fn offer_reserved(&mut self, notification: Notification)
+    pub fn offer_reserved(&mut self, notification: Shared<Notification>)
         requires numbers { HasNumberLeft self.old.queue }
         requires room { 1 ≤ self.old.spare }
         ensures { self.new.queue ≡ offered notification self.old.queue }

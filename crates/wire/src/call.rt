@@ -10,7 +10,6 @@ use crate::wire::Wire;
 use ais_values::{Seq, Status, Text};
 use calls::{Call, Entry, Reply};
 use ntf_filters::FilterSet;
-use ntf_types::Notification;
 use record_print::Header;
 use std::alloc::{AllocError, Global};
 use stream_config::StreamName;
@@ -294,7 +293,7 @@ impl Wire for Content {
         let (tag, rest) = read_first(bytes)?;
         match tag {
             1 => {
-                let (notification, rest) = Notification::read_front(alloc, rest)?;
+                let (notification, rest) = Wire::read_front(alloc, rest)?;
                 Ok((Content::Notified { notification }, rest))
             }
             2 => {

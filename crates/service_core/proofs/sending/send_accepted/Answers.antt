@@ -31,7 +31,7 @@ send_stored-requires-clause-events c =
     let fits = c.ranges.now in
     let log = c.args.parts.now.log.table in
     let plans = simp to_z-of_z at c.in_ok-plan.ensures.ok in
-    planned-fit log c.args.now (Stored (stream_of_kind c.kind_for.result) c.in_ok-rec.rec (second_of c.args.now)) _ false None c.in_ok-plan.plan c.requires.log (second-bound c.args.now c.requires.log.moment) (λ e passes. room-left (is_filled log.streams _ _) e) plans
+    planned-fit log c.args.now (Stored (stream_of_kind c.kind_of_sent.result) c.in_ok-rec.rec (second_of c.args.now)) _ false None c.in_ok-plan.plan c.requires.log (second-bound c.args.now c.requires.log.moment) (λ e passes. room-left (is_filled log.streams _ _) e) plans
 
 pub send_stored-requires-clause-first : goal.send_stored-requires-clause-first
 send_stored-requires-clause-first c =
@@ -42,7 +42,7 @@ send_stored-requires-clause-stands c =
     let fits = c.ranges.now in
     let log = c.args.parts.now.log.table in
     let plans = simp to_z-of_z at c.in_ok-plan.ensures.ok in
-    planned-first log c.args.now (stream_of_kind c.kind_for.result) c.in_ok-rec.rec (second_of c.args.now) _ false None c.in_ok-plan.plan c.requires.log (second-bound c.args.now c.requires.log.moment) (λ e passes. room-left (is_filled log.streams _ _) e) plans
+    planned-first log c.args.now (stream_of_kind c.kind_of_sent.result) c.in_ok-rec.rec (second_of c.args.now) _ false None c.in_ok-plan.plan c.requires.log (second-bound c.args.now c.requires.log.moment) (λ e passes. room-left (is_filled log.streams _ _) e) plans
 
 pub send_stored-requires-clause-add : goal.send_stored-requires-clause-add
 send_stored-requires-clause-add c =
@@ -56,7 +56,7 @@ returns-clause-ok c =
     let fits = c.ranges.now in
     let parts = c.args.parts.now in
     let log = parts.log.table in
-    let stream = c.kind_for.ensures.stream in
+    let stream = c.kind_of_sent.ensures.stream in
     let plans = simp to_z-of_z at c.in_ok-plan.ensures.ok in
     let written = simp to_z-of_z at c.in_ok-rec.ensures in
     let acted = c.in_ok-acted.ensures in

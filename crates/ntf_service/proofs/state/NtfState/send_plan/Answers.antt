@@ -16,7 +16,7 @@ use Rattle.ntf_service.proofs.state.NtfState.send_plan.Goals.{After-as_slice}
 -- the places are those of the notification's type
 placed : (c : After-as_slice) → c.places-places.result.now ≡ positions (has_filter (kind_for c.args.notification.now.body)) (filters_of c.self.inside.subs.items)
 placed c =
-    c.places-places.ensures ∙ c.self.invariant.places c.kind_for.result ∙ ap (λ kind. positions (has_filter kind) (filters_of c.self.inside.subs.items)) c.kind_for.ensures
+    c.places-places.ensures ∙ c.self.invariant.places c.kind_for.result ∙ ap (λ kind. positions (has_filter kind) (filters_of c.self.inside.subs.items)) (c.kind_for.ensures ∙ ap (λ (one : Notification). kind_for one.body) c.get.ensures)
 
 pub offers_for-requires-clause-places : goal.offers_for-requires-clause-places
 offers_for-requires-clause-places c =
