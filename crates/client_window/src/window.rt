@@ -136,6 +136,13 @@ impl<R: Drop> Window<R> {
         self.next
     }
 
+    /// How many replies are kept.
+    pub fn count(&self) -> u32
+        ensures { result ≡ length self.now.replies }
+    {
+        self.replies.len() as u32
+    }
+
     /// The reply at this place among those that are kept, the oldest at place 0.
     pub fn reply_at(&self, i: u32) -> Option<&R>
         ensures { option_copied result ≡ slice_get (reverse self.now.replies) i }

@@ -95,7 +95,7 @@ fn restored_subs(
     requires { AllByRecursion (HasSoundQueue cap) subs.now }
     ensures { IfOk result (λ kept. all_told kept.items ≡ map (kept_sub_of cap) subs.now) }
 {
-    let mut kept = Vec::new(alloc);
+    let mut kept = Vec::with_capacity(alloc, subs.len())?;
     for sub in subs {
         kept.push(restored_sub(alloc, cap, sub)?)?;
     }
@@ -141,7 +141,7 @@ fn restored_windows(alloc: Global, windows: &[SavedWindow]) -> Result<Vec<Client
     requires { (number : ℕ) × AllByRecursion (IsFitWindow number) windows.now }
     ensures { IfOk result (λ callers. callers.items ≡ map kept_window windows.now) }
 {
-    let mut callers = Vec::new(alloc);
+    let mut callers = Vec::with_capacity(alloc, windows.len())?;
     for saved in windows {
         let replies = saved.replies.copy(alloc)?;
         let window = Window::rebuild(alloc, saved.next, replies)?;

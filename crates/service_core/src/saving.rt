@@ -51,9 +51,8 @@ fn push_copy<T: Duplicate + Drop>(
 fn replies_of(alloc: Global, window: &Window<Reply>) -> Result<Seq<Reply>, AllocError>
     ensures { IfOk result (λ replies. replies ≡ reverse window.now.replies) }
 {
-    let _next = window.next();
     let mut replies = Seq::new(alloc);
-    for place in 0..32 {
+    for place in 0..window.count() {
         push_copy(alloc, &mut replies, window.reply_at(place))?;
     }
     Ok(replies)

@@ -1,9 +1,9 @@
-use Rattle.std.proofs.Common.{List, ◌++◌, take, reverse, ap, sym, ◌∙◌}
+use Rattle.std.proofs.Common.{List, ◌++◌, take, reverse, ap, sym, ◌∙◌, arith}
+use Rattle.std.proofs.lemmas.List.{length-reverse, take_all}
 use Rattle.std.specs.Prelude.{Option}
 use Rattle.calls.specs.declared.reply.Reply.{Reply}
 use Rattle.std.specs.Option.{option_copied, option_to_list}
 use Rattle.service_core.proofs.ListSteps.{take-place}
-use Rattle.service_core.proofs.SavingLaws.{replies-whole}
 use Rattle.service_core.proofs.saving.replies_of.Goals as goal
 
 pub loop-place-preserved : goal.loop-place-preserved
@@ -17,5 +17,5 @@ loop-place-preserved c =
 
 pub returns : goal.returns
 returns c =
-    let stands = c.next-next.ensures.stands in
-    c.loop-place.invariant ∙ replies-whole c.loop-place.place c.args.window.now stands.0 stands.1 c.loop-place-test.false
+    let kept = c.args.window.now.replies in
+    c.loop-place.invariant ∙ take_all c.loop-place.place (reverse kept) (omega (arith, length-reverse kept, c.count-place-end.ensures, c.loop-place-test.false))
