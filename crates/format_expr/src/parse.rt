@@ -1,7 +1,7 @@
 //! The pieces of an expression.
 ghost use Rattle.std.specs.Prelude.{List, ◌≡◌, ◌+◌, ◌≤◌, ◌<◌, ◌↔◌, length, IfOk, IsErrOf, IfSome, OnSome, slice_get};
 ghost use Rattle.format_expr.specs.Reading.{digit_of, width_at, token_at, plain_length, piece_at, pieces_of};
-ghost use Rattle.format_expr.specs.Language.{ArePiecesOf};
+ghost use Rattle.format_expr.specs.Language.{ArePiecesOf, IsExpression};
 ghost use Rattle.format_expr.specs.Faults.{IsFault};
 ghost use Rattle.format_expr.specs.declared.piece.Piece.{Piece};
 ghost use Rattle.format_expr.specs.declared.fault.ExprFault.{ExprFault};
@@ -102,6 +102,23 @@ fn read_pieces(alloc: Global, text: &[u8]) -> Result<Vec<Piece>, AllocError>
     Ok(pieces)
 }
 
+/// The expression that a text is known to be for streams of the kind: it is not looked at whether it is one. Beside that it is
+/// `parse_expr`. An error is want of memory.
+pub fn known_expr(alloc: Global, kind: StreamKind, text: &[u8]) -> Result<Expr, AllocError>
+    requires valid { IsExpression kind text.now }
+    requires bound { length text.now ≤ 1024 }
+    ensures kind { IfOk result (λ expr. expr.kind ≡ kind) }
+    ensures pieces { IfOk result (λ expr. ArePiecesOf kind expr.pieces text.now) }
+    ensures only { IfOk result (λ expr. (others : List Piece) → ArePiecesOf kind others text.now
+        → others ≡ expr.pieces) }
+{
+    let pieces = read_pieces(alloc, text)?;
+    Ok(Expr {
+        kind,
+        pieces: Seq::from_vec(pieces),
+    })
+}
+
 /// The expression that a text is for streams of the kind.
 ///
 /// `Bad` comes exactly where `check_expr` refuses the text, with its fault. A text has one parse, whose plain
@@ -117,11 +134,8 @@ pub fn parse_expr(alloc: Global, kind: StreamKind, text: &[u8]) -> Result<Expr, 
         Ok(()) => {}
         Err(fault) => return Err(ExprAnswer::Bad { fault }),
     }
-    match read_pieces(alloc, text) {
-        Ok(pieces) => Ok(Expr {
-            kind,
-            pieces: Seq::from_vec(pieces),
-        }),
+    match known_expr(alloc, kind, text) {
+        Ok(expr) => Ok(expr),
         Err(_) => Err(ExprAnswer::Memory),
     }
 }

@@ -1,15 +1,9 @@
--- Facts of one stream: who is left when a client leaves, the last file closed, an expression read.
+-- Facts of one stream: who is left when a client leaves, the last file closed.
 use Rattle.std.proofs.Common.{◌≡◌, ℕ, ◌+◌, ◌-◌, ◌*◌, max, ◌%◌, ◌≤◌, ◌<◌, ◌==◌, suc, Bool, true, false, not, ◌&&◌, inl, inr, cond, List, [], ◌∷◌, length, get_or, set, refl, ap, sym, ◌∙◌, subst, arith}
-use Rattle.std.specs.Prelude.{Option, Some, None, is_some, ℤ, pos, ◌≤ℤ◌, unsigned_abs, Ok, Err, Result}
+use Rattle.std.specs.Prelude.{Option, Some, None, is_some, ℤ, pos, ◌≤ℤ◌, unsigned_abs}
 use Rattle.std.specs.List.{list_all}
 use Rattle.client_set.specs.Rising.{without}
-use Rattle.ais_values.specs.declared.kind.StreamKind.{StreamKind}
-use Rattle.format_expr.specs.declared.fault.ExprFault.{ExprFault}
-use Rattle.format_expr.specs.Faults.{IsFault}
-use Rattle.format_expr.proofs.LanguageLaws.{expression_is_accepted}
-use Rattle.format_expr.proofs.FaultLaws.{checked_ok}
 use Rattle.stream_config.specs.declared.state.LogFile.{LogFile}
-use Rattle.stream_config.specs.Attributes.{IsFormat}
 use Rattle.stream_config.specs.Events.{current_file, offset_in, file_closed, file_with, last_closed, last_with as files_with, next_offset, files_stored}
 use Rattle.stream_config.specs.declared.state.StreamState.{StreamState}
 use Rattle.stream_config.specs.declared.event.Stamps.{Stamps}
@@ -56,14 +50,6 @@ set-last_closed closed (file ∷ next ∷ files) read some is =
     let behind : read ≡ get_or (next ∷ files) (length (next ∷ files) - 1) read = is ∙ ap (λ n. get_or (file ∷ next ∷ files) n read) here in
     ap (λ n. set (file ∷ next ∷ files) n shut) here
     ∙ ap (λ rest. file ∷ rest) (set-last_closed closed (next ∷ files) read (omega arith) behind)
-
--- an expression has no fault
-pub no-fault : (kind : StreamKind) (text : List ℕ) (fault : ExprFault) → IsFormat kind text → IsFault kind text fault → ⊥
-no-fault kind text fault is faulty =
-    let accepted = expression_is_accepted kind text is.valid in
-    let checked = checked_ok kind text accepted.last (tt {0}) accepted.reached accepted.ends is.bound in
-    let answer : Result (Unit {0}) ExprFault = Ok tt in
-    let none : answer ≡ Err fault = (checked.refused fault).1 faulty in absurd cc
 
 -- the last file written over is the last one with more bytes
 pub set-last_with : (at len : ℕ) (files : List LogFile) (read : LogFile) → 0 < length files → read ≡ get_or files (length files - 1) read → set files (length files - 1) (file_with at len read) ≡ files_with at len files

@@ -22,7 +22,7 @@ use crate::files::{Filed, due_stamps, files_stored, last_after, opened_after, st
 use crate::joined::with_client;
 use ais_values::{Duplicate, Name, Seq, Text};
 use client_set::ClientSet;
-use format_expr::{Expr, ExprAnswer, parse_expr};
+use format_expr::{Expr, known_expr};
 use record_print::{
     Header, LogRecord, notified_length, parts_length, print_record, printed_length,
 };
@@ -73,11 +73,8 @@ fn expression(alloc: Global, name: &StreamName, attrs: &StreamAttrs) -> Result<E
     requires { PassesAttrs (kind_of name.now) attrs.now }
     ensures { IfOk result (λ expr. expr.pieces ≡ pieces_of attrs.now.expr) }
 {
-    match parse_expr(alloc, name.kind(), attrs.expr.as_slice()) {
-        Ok(expr) => Ok(expr),
-        Err(ExprAnswer::Memory) => Err(AllocError),
-        Err(ExprAnswer::Bad { .. }) => unreachable!(),
-    }
+    let expr = known_expr(alloc, name.kind(), attrs.expr.as_slice())?;
+    Ok(expr)
 }
 
 /// The state of a stream that is made at this stamp.
