@@ -32,6 +32,7 @@ fn notified(object: &Name, notifier: &Name) -> NameLengths
     }
 }
 
+/// Those of a header.
 fn name_lengths(header: &Header) -> NameLengths
     ensures { result ≡ name_lengths header.now }
 {
@@ -47,7 +48,8 @@ fn name_lengths(header: &Header) -> NameLengths
     }
 }
 
-fn time_length(part: TimePart) -> usize
+/// How many bytes a token shows of a time without a width, 2 to 18.
+pub fn time_length(part: TimePart) -> u8
     ensures { result ≡ time_length part }
 {
     match part {
@@ -69,7 +71,7 @@ fn ntf_length(object: usize, notifier: usize, part: Part) -> usize
     ensures { result ≡ ntf_length object notifier part }
 {
     match part {
-        Part::Time { part, .. } => time_length(part),
+        Part::Time { part, .. } => usize::from(time_length(part)),
         Part::NotificationId => 18,
         Part::EventType => 6,
         Part::Object => object,
@@ -89,6 +91,7 @@ fn generic_length(user: usize, part: Part) -> usize
     }
 }
 
+/// How many bytes a token shows of a header.
 fn header_length(names: NameLengths, part: Part) -> usize
     ensures { result ≡ header_length names part }
 {
@@ -107,7 +110,7 @@ fn part_length(names: NameLengths, body: &Text, part: Part) -> usize
         Part::Time {
             moment: Moment::Record,
             part,
-        } => time_length(part),
+        } => usize::from(time_length(part)),
         Part::ClassId => 29,
         Part::Cut => 1,
         Part::Body => body.as_slice().len(),
@@ -116,6 +119,7 @@ fn part_length(names: NameLengths, body: &Text, part: Part) -> usize
     }
 }
 
+/// How many bytes a piece has, a token in its places.
 fn piece_length(names: NameLengths, body: &Text, piece: &Piece) -> usize
     ensures { result ≡ piece_length names body.now piece.now }
 {

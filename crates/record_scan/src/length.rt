@@ -1,27 +1,10 @@
 //! How long the texts of tokens are.
 ghost use Rattle.std.specs.Prelude.{◌≡◌, ◌≤◌, nat_lt};
-ghost use Rattle.record_print.specs.Lengths.{time_length};
 ghost use Rattle.record_scan.specs.Fits.{length_at, fixed_length, is_variable, variables};
 ghost use Rattle.record_scan.specs.Reading.{places_in, least_length, least_total};
 
-use format_expr::{Part, Piece, TimePart, Token};
-
-fn time_places(part: TimePart) -> u8
-    ensures { result ≡ time_length part }
-{
-    match part {
-        TimePart::Nanoseconds => 18,
-        TimePart::MonthName | TimePart::DayName => 3,
-        TimePart::Year => 4,
-        TimePart::Hour
-        | TimePart::Minute
-        | TimePart::Second
-        | TimePart::HalfDay
-        | TimePart::Month
-        | TimePart::Day
-        | TimePart::ShortYear => 2,
-    }
-}
+use format_expr::{Part, Piece, Token};
+use record_print::time_length;
 
 /// The length of a token's texts without a width, where they all have the same.
 fn standard_places(part: Part) -> Option<u8>
@@ -29,7 +12,7 @@ fn standard_places(part: Part) -> Option<u8>
 {
     match part {
         Part::Number => Some(10),
-        Part::Time { part, .. } => Some(time_places(part)),
+        Part::Time { part, .. } => Some(time_length(part)),
         Part::ClassId => Some(29),
         Part::Cut => Some(1),
         Part::NotificationId => Some(18),
@@ -39,6 +22,7 @@ fn standard_places(part: Part) -> Option<u8>
     }
 }
 
+/// The length of a token's texts, where they all have the same.
 fn fixed_places(token: Token) -> Option<u8>
     ensures { result ≡ fixed_length token }
 {
@@ -48,6 +32,7 @@ fn fixed_places(token: Token) -> Option<u8>
     }
 }
 
+/// Whether a piece is a token whose texts have no one length.
 pub(crate) fn has_variable_length(piece: &Piece) -> bool
     ensures { result ≡ is_variable piece.now }
 {
@@ -79,6 +64,7 @@ pub(crate) fn places_of(token: Token, variable: usize) -> usize
     }
 }
 
+/// How many bytes a piece has where its token's text, if it is variable, is empty.
 fn least_places(piece: &Piece) -> usize
     ensures { result ≡ least_length piece.now }
 {
