@@ -19,7 +19,7 @@ pub struct Kept {
     pub call: Shared<Call>,
 }
 
-/// How many calls may be unanswered.
+/// How many numbers the calls without a reply may span.
 const WINDOW: u64 = 32;
 
 /// The service that a call belongs to.

@@ -15,7 +15,7 @@ use std::sync::Wait;
 use std::thread::Threads;
 
 // How many callbacks a queue takes in all.
-const MOST: u64 = 1 << 62;
+const MAX_CALLBACKS: u64 = 1 << 62;
 
 /// The queue in which a client's callbacks wait, with both of its ends.
 ///
@@ -139,7 +139,7 @@ impl Ring {
             self.new ≡ record self.old { queue = callback ∷ self.old.queue }) }
         ensures err { OnErr result (self.new ≡ self.old) }
     {
-        if self.fed >= MOST {
+        if self.fed >= MAX_CALLBACKS {
             drop(callback);
             return Err(AllocError);
         }

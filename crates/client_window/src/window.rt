@@ -12,11 +12,11 @@ use std::alloc::{AllocError, Global};
 use std::collections::VecDeque;
 use std::marker::Model;
 
-/// How many replies are kept.
-const KEPT: usize = 32;
+/// The most replies that are kept.
+const MAX_REPLIES: usize = 32;
 
 /// For how many of them there is room at first.
-const FIRST: usize = 4;
+const FIRST_PLACES: usize = 4;
 
 /// The number of a client's next call, and the replies to the 32 calls before it.
 #[derive(Drop)]
@@ -59,7 +59,7 @@ fn keep<R: Drop>(replies: &mut VecDeque<R>, reply: R)
     ensures items { replies.new.items ≡ take 32 (reply ∷ replies.old.items) }
     ensures capacity { deque_capacity replies.new ≡ deque_capacity replies.old }
 {
-    replies.truncate(KEPT - 1);
+    replies.truncate(MAX_REPLIES - 1);
     replies.push_front_reserved(reply);
 }
 
@@ -70,7 +70,7 @@ impl<R: Drop> Window<R> {
     {
         Ok(Window {
             next: 1,
-            replies: VecDeque::with_capacity(alloc, FIRST)?,
+            replies: VecDeque::with_capacity(alloc, FIRST_PLACES)?,
         })
     }
 
@@ -81,7 +81,7 @@ impl<R: Drop> Window<R> {
     {
         let mut items = replies.into_vec();
         items.reverse();
-        items.reserve(KEPT - items.len())?;
+        items.reserve(MAX_REPLIES - items.len())?;
         Ok(Window {
             next,
             replies: VecDeque::from_vec(items),

@@ -9,7 +9,7 @@ use std::alloc::{AllocError, Global};
 use wire::Message;
 
 /// The tag of a reply.
-const REPLY: u8 = 2;
+const REPLY_TAG: u8 = 2;
 
 /// How the spelling of a reply to a client's call begins.
 #[tactic(auto, unfolding(wire_code::specs::Spelling::number_text))]
@@ -18,7 +18,7 @@ fn reply_front(client: u16, seq: u32) -> [u8; 7]
 {
     let client = client.to_be_bytes();
     let seq = seq.to_be_bytes();
-    [REPLY, client[0], client[1], seq[0], seq[1], seq[2], seq[3]]
+    [REPLY_TAG, client[0], client[1], seq[0], seq[1], seq[2], seq[3]]
 }
 
 /// The message of these bytes, where they begin so and one spells them. A string of more than 4,294,967,294 bytes counts as want of

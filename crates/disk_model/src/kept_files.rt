@@ -7,7 +7,7 @@ use std::io::{ErrorKind, Seek, SeekFrom, Write};
 use std::rt::Files;
 
 /// The most files that stay open.
-const MOST_KEPT: usize = 8;
+const MAX_KEPT: usize = 8;
 
 // A file that is open for writing. It is not kept where memory for its name was wanting.
 #[derive(Drop)]
@@ -116,7 +116,7 @@ impl<R: Files> KeptFiles<R> {
         if kept.name.is_none() {
             return;
         }
-        if self.files.len() >= MOST_KEPT {
+        if self.files.len() >= MAX_KEPT {
             let _ = self.files.remove(0);
         }
         let _ = self.files.push(kept);

@@ -13,7 +13,7 @@ use std::alloc::{AllocError, Global};
 use wire::{Message, encode};
 
 /// A journal of more bytes or messages takes no further one.
-const MOST: u64 = 9_000_000_000_000_000_000;
+const MAX_JOURNAL: u64 = 9_000_000_000_000_000_000;
 
 /// A journal on a disk: the place of its closed gate, and how many entries it has.
 #[derive(Clone, Copy, PartialEq, Eq, Debug)]
@@ -75,7 +75,7 @@ impl Journal {
     fn longer(&self, size: u64) -> Option<Journal>
         ensures { IfSome result (λ next. next ≡ longer_by size self.now) }
     {
-        if self.end > MOST || self.number > MOST || size > MOST {
+        if self.end > MAX_JOURNAL || self.number > MAX_JOURNAL || size > MAX_JOURNAL {
             return None;
         }
         Some(Journal {

@@ -38,7 +38,7 @@ use std::marker::Model;
 use stream_config::{Mark, StreamAttrs, StreamEvent, StreamName, StreamState, check_attrs};
 
 /// The most streams of applications that live at once.
-const MOST_APPLICATIONS: usize = 64;
+const MAX_APPLICATIONS: usize = 64;
 
 /// Whether a stream of the kind may have these attributes.
 fn passes_attrs(kind: StreamKind, attrs: &StreamAttrs) -> bool
@@ -369,7 +369,7 @@ impl LogState {
         }
         if streams::has_place(streams, attrs) {
             Status::Exist
-        } else if streams::application_count(streams) >= MOST_APPLICATIONS {
+        } else if streams::application_count(streams) >= MAX_APPLICATIONS {
             Status::NoResources
         } else {
             Status::Ok

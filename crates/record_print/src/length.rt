@@ -11,7 +11,7 @@ use ais_values::{Name, Text};
 use format_expr::{Expr, Moment, Part, Piece, TimePart};
 
 /// The most bytes of a text before its line feed.
-pub(crate) const MOST_PLACES: usize = 16_383;
+pub(crate) const MAX_PLACES: usize = 16_383;
 
 /// How many bytes the names of a record's header have.
 #[derive(Clone, Copy)]
@@ -140,7 +140,7 @@ fn text_length(names: NameLengths, body: &Text, pieces: &[Piece]) -> usize
     for piece in pieces {
         total = total
             .saturating_add(piece_length(names, body, piece))
-            .min(MOST_PLACES);
+            .min(MAX_PLACES);
     }
     total
 }

@@ -3,7 +3,7 @@ use crate::run::Message;
 use std::alloc::{AllocError, Global};
 
 /// How many messages have places of their own at a time; further ones share them.
-const MOST: usize = 12;
+const MAX_LANES: usize = 12;
 
 /// Gives each message a place that no other one has while it is drawn, as long as there are places.
 pub(crate) fn place_messages(alloc: Global, messages: &mut Vec<Message>) -> Result<(), AllocError> {
@@ -23,11 +23,11 @@ fn lane_of(free: &mut Vec<usize>, from: usize, to: usize) -> Result<u64, AllocEr
             }
             Ok(lane as u64)
         }
-        None if free.len() < MOST => {
+        None if free.len() < MAX_LANES => {
             let lane = free.len();
             free.push(to.saturating_add(1))?;
             Ok(lane as u64)
         }
-        None => Ok((from % MOST) as u64),
+        None => Ok((from % MAX_LANES) as u64),
     }
 }

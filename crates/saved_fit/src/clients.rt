@@ -136,14 +136,18 @@ pub(crate) fn are_among(clients: &[u16], some: &[u16]) -> bool
 }
 
 /// The most replies of a client that are kept.
-const KEPT: u64 = 32;
+const MAX_REPLIES: u64 = 32;
 
 /// Whether so many replies are kept before the next call.
 fn has_replies_before(next: u32, count: usize) -> bool
     ensures { IsTrue result ↔ HasRepliesBefore next count }
 {
     let calls = u64::from(next.saturating_sub(1));
-    let kept = if calls < KEPT { calls } else { KEPT };
+    let kept = if calls < MAX_REPLIES {
+        calls
+    } else {
+        MAX_REPLIES
+    };
     next >= 1 && count as u64 == kept
 }
 

@@ -8,7 +8,7 @@ ghost use Rattle.saved_fit.specs.Filling.{AreEvenIfAlike};
 use stream_config::{FullAction, LogFile, StreamAttrs, StreamState, per_file};
 
 /// The most bytes of a record.
-const MOST_BYTES: u64 = 16_384;
+const MAX_BYTES: u64 = 16_384;
 
 /// How many of so many records stand in a file: those for which it has slots, where they wrap.
 fn count_in(attrs: &StreamAttrs, count: u32) -> u32
@@ -28,7 +28,7 @@ fn has_fit_bytes(attrs: &StreamAttrs, count: u32, bytes: u64) -> bool
 {
     let count_wide = u64::from(count);
     match attrs.record_size {
-        0 => count_wide <= bytes && bytes <= count_wide * MOST_BYTES && bytes <= attrs.max_file,
+        0 => count_wide <= bytes && bytes <= count_wide * MAX_BYTES && bytes <= attrs.max_file,
         size => bytes == count_wide * u64::from(size) && count <= per_file(attrs),
     }
 }

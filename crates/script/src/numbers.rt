@@ -14,13 +14,13 @@ ghost use Rattle.script_language.specs.ValueReading.{number8_at, number16_at, nu
 use ais_values::UNKNOWN_TIME;
 
 /// The greatest number of a client.
-const MOST_CLIENTS: u64 = 4_096;
+const MAX_CLIENT: u64 = 4_096;
 
 /// The most elements of a queue.
-const LONGEST_QUEUE: u64 = 256;
+const MAX_QUEUE: u64 = 256;
 
 /// The most workers of a dispatch.
-const MOST_WORKERS: u64 = 8;
+const MAX_WORKERS: u64 = 8;
 
 /// The last moment that a script names, in nanoseconds.
 const LAST_TIME: i64 = 9_000_000_000_000_000_000;
@@ -153,7 +153,7 @@ pub(crate) fn number64(bytes: &[u8]) -> Option<(u64, &[u8])>
 pub(crate) fn client(bytes: &[u8]) -> Option<(u16, &[u8])>
     ensures { client_at bytes.now ≡ option_map (λ found. (found.0, found.1.now)) result }
 {
-    let (value, rest) = number(bytes, 1, MOST_CLIENTS)?;
+    let (value, rest) = number(bytes, 1, MAX_CLIENT)?;
     Some((value as u16, rest))
 }
 
@@ -161,7 +161,7 @@ pub(crate) fn client(bytes: &[u8]) -> Option<(u16, &[u8])>
 pub(crate) fn queue_length(bytes: &[u8]) -> Option<(u32, &[u8])>
     ensures { queue_length_at bytes.now ≡ option_map (λ found. (found.0, found.1.now)) result }
 {
-    let (value, rest) = number(bytes, 1, LONGEST_QUEUE)?;
+    let (value, rest) = number(bytes, 1, MAX_QUEUE)?;
     Some((value as u32, rest))
 }
 
@@ -169,7 +169,7 @@ pub(crate) fn queue_length(bytes: &[u8]) -> Option<(u32, &[u8])>
 pub(crate) fn workers(bytes: &[u8]) -> Option<(u32, &[u8])>
     ensures { number_at 1 8 bytes.now ≡ option_map (λ found. (found.0, found.1.now)) result }
 {
-    let (value, rest) = number(bytes, 1, MOST_WORKERS)?;
+    let (value, rest) = number(bytes, 1, MAX_WORKERS)?;
     Some((value as u32, rest))
 }
 
