@@ -6,6 +6,9 @@ use crate::Entry;
 use std::alloc::{AllocError, Global};
 use std::marker::Model;
 
+/// The most entries that a history has.
+pub const MAX_ENTRIES: u64 = 4_000_000_000;
+
 /// The entries that were accepted. Contracts see them, the newest first, and for how many more there is room.
 pub struct History {
     entries: Vec<Entry>,

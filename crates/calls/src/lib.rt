@@ -13,7 +13,7 @@ pub use ais_values::{Boxed, Shared};
 pub use call::{Ask, Call};
 pub use entry::{Entry, Held};
 pub use going::{let_entries_go, let_entry_go, let_history_go};
-pub use history::History;
+pub use history::{History, MAX_ENTRIES};
 pub use law::law_of_equality;
 pub use reply::{Callback, Reply};
 pub use saved::{Saved, SavedAlarm, SavedReader, SavedStream, SavedSub, SavedWindow};

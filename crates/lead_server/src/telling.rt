@@ -6,7 +6,7 @@ ghost use Rattle.cluster_clients.specs.Posted.{PostsAll, PostsSome};
 ghost use Rattle.lead_server.specs.Told.{Commits, IsTold, reason_of, outcome_lines};
 
 use ais_values::Seq;
-use calls::{Entry, History, let_entry_go};
+use calls::{Entry, History, MAX_ENTRIES, let_entry_go};
 use cluster_clients::post_all;
 use cluster_events::Why;
 use event_text::{put_entry, put_ignored};
@@ -14,9 +14,6 @@ use message_net::Net;
 use mirror::{Heard, Outcome, Why as Reason};
 use std::alloc::{AllocError, Global};
 use wire::{Message, let_messages_go};
-
-/// The history takes fewer entries than this.
-const ENTRIES: u64 = 4_000_000_000;
 
 /// Why a server ignored a request or a receipt, as lines tell it.
 fn reason_of(why: Reason) -> Option<Why>
@@ -63,7 +60,7 @@ fn commit_one(
     ensures lines { OnErr result (lines.new.items ≡ lines.old.items) }
 {
     let count = history.len();
-    if count >= ENTRIES {
+    if count >= MAX_ENTRIES {
         let_entry_go(Some(entry));
         return Err(AllocError);
     }

@@ -11,7 +11,7 @@ ghost use Rattle.lone_server.specs.Restarting.{linked, new_lines, ComesBack, Ins
 
 use crate::Lone;
 use ais_values::Seq;
-use calls::{Entry, History, let_entries_go, let_entry_go, let_history_go};
+use calls::{Entry, History, MAX_ENTRIES, let_entries_go, let_entry_go, let_history_go};
 use cluster_events::ServerRole;
 use disk_model::SharedDisk;
 use event_text::{put_entry, put_server};
@@ -22,9 +22,6 @@ use script_lines::Server;
 use std::alloc::{AllocError, Global};
 use std::mem;
 use wire::Message;
-
-/// How many entries are accepted at most.
-const ENTRIES: u64 = 4_000_000_000;
 
 /// The line of an entry that is found, where it is a new one, behind the first `known`.
 fn put_new(
@@ -54,7 +51,7 @@ fn take_one(
         lines.old.items lines.new.items) }
 {
     let count = history.len();
-    if count >= ENTRIES {
+    if count >= MAX_ENTRIES {
         let_entry_go(Some(entry));
         return Err(AllocError);
     }

@@ -23,7 +23,7 @@ use crate::node::Tie;
 use crate::replica::Replica;
 use crate::{Heard, Outcome};
 use ais_values::{Duplicate, Seq};
-use calls::{Boxed, Entry, Saved};
+use calls::{Boxed, Entry, MAX_ENTRIES, Saved};
 use saved_fit::is_fit;
 use service_core::Service;
 use std::alloc::{AllocError, Global};
@@ -97,14 +97,11 @@ pub(crate) fn can_join(saved: &Boxed<Saved>) -> bool
     is_fit(saved.get())
 }
 
-/// How many entries a service accepts.
-const MOST: u64 = 4_000_000_000;
-
 /// Whether a service can accept a further entry.
 pub(crate) fn has_room(service: &Service) -> bool
     ensures { IsTrue result ↔ HasRoom (Some service.now) }
 {
-    service.number() < MOST
+    service.number() < MAX_ENTRIES
 }
 
 /// Whether a further entry of a client can be accepted at a moment.
@@ -115,7 +112,7 @@ fn can_accept(service: &Service, client: u16, time: i64) -> bool
         && client <= 4096
         && 0 <= time
         && time <= 9_000_000_000_000_000_000
-        && service.number() < 4_000_000_000
+        && service.number() < MAX_ENTRIES
 }
 
 /// Whether an entry can be applied.

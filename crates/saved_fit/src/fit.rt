@@ -7,13 +7,13 @@ use crate::alarms::have_fit_alarms;
 use crate::asking::{have_fit_readers, have_fit_subs};
 use crate::clients::{are_windows_of_clients, is_fit_window};
 use crate::streams::{has_fit_stamp, have_fit_streams};
-use calls::{Saved, SavedWindow};
+use calls::{MAX_ENTRIES, Saved, SavedWindow};
 
 /// Whether the counts of a value are fit.
 fn has_fit_counts(saved: &Saved) -> bool
     ensures { IsTrue result ↔ HasFitCounts saved.now }
 {
-    saved.number <= 4_000_000_000
+    saved.number <= MAX_ENTRIES
         && saved.last_id <= saved.number
         && saved.capacity >= 1
         && saved.capacity <= 256

@@ -7,7 +7,7 @@ use crate::files::perform_all;
 use crate::printing::{put, put_reply};
 use crate::twins::twin_agrees;
 use ais_values::Duplicate;
-use calls::{Call, Entry, Reply, Shared};
+use calls::{Call, Entry, MAX_ENTRIES, Reply, Shared};
 use client_window::Judged;
 use service_core::{Effect, Service};
 use std::alloc::{AllocError, Global};
@@ -16,7 +16,7 @@ use std::alloc::{AllocError, Global};
 fn can_accept(service: &Service, client: u16, now: i64) -> bool
     ensures { IsTrue result → CanAcceptIn service.now client now }
 {
-    client >= 1 && client <= 4096 && is_moment(now) && service.number() < 4_000_000_000
+    client >= 1 && client <= 4096 && is_moment(now) && service.number() < MAX_ENTRIES
 }
 
 /// Whether the window of a client judges a call that was answered so, and those behind it.
