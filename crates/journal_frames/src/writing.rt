@@ -13,7 +13,7 @@ use disk_model::{DiskAnswer, SharedDisk};
 use std::alloc::{AllocError, Global};
 
 /// The name of a journal's file.
-const NAME: &[u8] = b"journal.dat";
+pub const JOURNAL_FILE: &[u8] = b"journal.dat";
 
 // Puts a length in four bytes behind others.
 #[tactic(auto, unfolding(wire_code::specs::Spelling::number_text))]
@@ -47,8 +47,8 @@ fn write_through<J: SharedDisk>(disk: &mut J, at: u64, bytes: &[u8]) -> Result<(
     ensures stop { RoseExactlyOn (J.seen disk.old).stops (J.seen disk.new).stops result
         DiskAnswer.Stopped }
 {
-    match disk.write_at(NAME, at, bytes) {
-        Ok(()) => disk.sync(NAME),
+    match disk.write_at(JOURNAL_FILE, at, bytes) {
+        Ok(()) => disk.sync(JOURNAL_FILE),
         Err(answer) => Err(answer),
     }
 }
@@ -88,7 +88,7 @@ pub fn make_file<J: SharedDisk>(disk: &mut J, behind: &[u8]) -> Result<(), DiskA
     ensures stop { RoseExactlyOn (J.seen disk.old).stops (J.seen disk.new).stops result
         DiskAnswer.Stopped }
 {
-    match disk.create(NAME) {
+    match disk.create(JOURNAL_FILE) {
         Ok(()) => {}
         Err(answer) => return Err(answer),
     }
@@ -112,8 +112,8 @@ fn cut_behind<J: SharedDisk>(disk: &mut J, end: u64) -> Result<(), DiskAnswer>
         DiskAnswer.Stopped }
     ensures unarmed { StaysUnarmed result (J.seen disk.old).tally (J.seen disk.new).tally }
 {
-    match disk.cut(NAME, end + 1) {
-        Ok(()) => disk.sync(NAME),
+    match disk.cut(JOURNAL_FILE, end + 1) {
+        Ok(()) => disk.sync(JOURNAL_FILE),
         Err(answer) => Err(answer),
     }
 }
@@ -165,7 +165,7 @@ pub fn mend<J: SharedDisk>(disk: &mut J, end: u64, closed: bool) -> Result<(), D
         DiskAnswer.Stopped }
     ensures unarmed { StaysUnarmed result (J.seen disk.old).tally (J.seen disk.new).tally }
 {
-    match disk.sync(NAME) {
+    match disk.sync(JOURNAL_FILE) {
         Ok(()) => close_and_cut(disk, end, closed),
         Err(answer) => Err(answer),
     }

@@ -16,12 +16,9 @@ use crate::replaying::{ReplayAnswer, Replayed, replay};
 use ais_values::Seq;
 use calls::{Entry, let_entries_go};
 use disk_model::{DiskAnswer, DiskFault, SharedDisk};
-use journal_frames::mend;
+use journal_frames::{JOURNAL_FILE, mend};
 use mirror::{Node, let_heard_go, let_node_go};
 use std::alloc::Global;
-
-/// The name of a journal's file.
-const NAME: &[u8] = b"journal.dat";
 
 /// A server that is active after a cold start, with the journal, and the entries that were found, in order.
 #[derive(Drop)]
@@ -100,12 +97,12 @@ fn read_journal<J: SharedDisk>(alloc: Global, disk: &mut J) -> Result<Option<Seq
     ensures stops { (J.seen disk.new).stops ≡ (J.seen disk.old).stops }
     ensures armed { (J.seen disk.new).tally.armed ≡ (J.seen disk.old).tally.armed }
 {
-    let size = match disk.len(NAME) {
+    let size = match disk.len(JOURNAL_FILE) {
         Ok(Some(size)) => size,
         Ok(None) => return Ok(None),
         Err(DiskFault::Failed) => return Err(DiskAnswer::Failed),
     };
-    match read_front(alloc, disk, NAME, size) {
+    match read_front(alloc, disk, JOURNAL_FILE, size) {
         Ok(bytes) => Ok(Some(bytes)),
         Err(answer) => Err(answer),
     }
