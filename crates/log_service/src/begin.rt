@@ -11,17 +11,16 @@ use crate::live::LiveStream;
 use ais_values::{Duplicate, Seq};
 use client_set::ClientSet;
 use std::alloc::{AllocError, Global};
-use stream_config::{Mark, StreamAttrs, StreamEvent, StreamName, StreamState, stamp};
-
-/// How many nanoseconds a second has.
-const NANOSECONDS: i64 = 1_000_000_000;
+use stream_config::{
+    Mark, NANOSECONDS_PER_SECOND, StreamAttrs, StreamEvent, StreamName, StreamState, stamp,
+};
 
 /// The second of a time.
 fn second_of(time: i64) -> i64
     requires { IsTimeOfCall time }
     ensures { result ≡ pos (second_of time) }
 {
-    time / NANOSECONDS
+    time / NANOSECONDS_PER_SECOND
 }
 
 /// Adds what was done where a stream was made.

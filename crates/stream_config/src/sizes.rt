@@ -7,7 +7,7 @@ ghost use Rattle.stream_config.specs.Stamps.{next_stamp};
 use crate::StreamAttrs;
 
 /// How many nanoseconds a second has.
-pub const NANOSECONDS: i64 = 1_000_000_000;
+pub const NANOSECONDS_PER_SECOND: i64 = 1_000_000_000;
 
 /// How many records a file of a stream of these attributes holds, which is 1 at least: the greatest file size
 /// divided by the record size, rounded down. The sizes lie within the bounds of `check_attrs`, and the record size
@@ -30,5 +30,5 @@ pub fn stamp(last: i64, time: i64) -> i64
     requires time_to { time ≤ℤ pos 9000000000000000000 }
     ensures { result ≡ pos (next_stamp (unsigned_abs last) (unsigned_abs time)) }
 {
-    (last + 1).max(time / NANOSECONDS)
+    (last + 1).max(time / NANOSECONDS_PER_SECOND)
 }
