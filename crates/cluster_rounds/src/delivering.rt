@@ -16,8 +16,8 @@ use std::alloc::{AllocError, Global};
 use std::sync::Wait;
 use wire::{Message, let_message_go};
 
-/// Whether the message is a reply or an item, which are for an agent.
-fn is_for_agent(message: &Message) -> bool
+/// Whether the message is a reply or an item, which are for an agent. It takes no memory.
+pub fn is_for_agent(message: &Message) -> bool
     ensures { result ≡ is_for_agent message.now }
 {
     matches!(message, Message::Reply { .. } | Message::Item { .. })

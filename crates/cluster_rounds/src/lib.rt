@@ -14,7 +14,7 @@ mod settling;
 
 pub use calling::{ask, dispatch};
 pub use cluster::Cluster;
-pub use delivering::deliver;
+pub use delivering::{deliver, is_for_agent};
 pub use injecting::inject;
 pub use resending::resend;
 pub use serving::Serving;

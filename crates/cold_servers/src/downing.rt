@@ -5,7 +5,6 @@ ghost use Rattle.std.specs.List.{AllByRecursion};
 ghost use Rattle.script_lines.specs.declared.line.Line.TheVariants.{Deliver};
 ghost use Rattle.wire.specs.MessageSpelling.{MessageInRange};
 ghost use Rattle.cluster_rounds.specs.Broken.{BreaksAlone};
-ghost use Rattle.cluster_rounds.specs.Delivered.{is_for_agent};
 ghost use Rattle.cluster_rounds.specs.Wild.{always, GoesWild, KeepsWild, StandsOf, StandsOn};
 ghost use Rattle.cluster_rounds.specs.Worlds.{any_state, Does};
 ghost use Rattle.cluster_lines.specs.Playing.{LooksBy};
@@ -21,7 +20,7 @@ use ais_values::Seq;
 use cluster_clients::{Fetched, fetch, number_in, place_of};
 use cluster_events::Why;
 use cluster_lines::{as_answer, show_file, show_files};
-use cluster_rounds::{Cluster, deliver};
+use cluster_rounds::{Cluster, deliver, is_for_agent};
 use disk_model::{DiskAnswer, SharedDisk};
 use event_text::put_ignored;
 use message_net::Net;
@@ -29,13 +28,6 @@ use script_lines::Line;
 use std::alloc::{AllocError, Global};
 use std::sync::Wait;
 use wire::{Message, let_message_go, let_messages_go};
-
-/// Whether the message is a reply or an item, which are for an agent.
-fn is_for_agent(message: &Message) -> bool
-    ensures { result ≡ is_for_agent message.now }
-{
-    matches!(message, Message::Reply { .. } | Message::Item { .. })
-}
 
 /// Whether the byte string of this place in the net is a message that is not for an agent.
 fn is_asking(alloc: Global, net: &Net, place: u64) -> Result<bool, AllocError>
