@@ -1,4 +1,4 @@
-//! The script language: lines of a script, read from bytes and written again.
+//! The reader of scripts: lines of a script, read from bytes; and beside it their types and the writer's functions.
 #![tactic(auto)]
 
 mod asks;
@@ -16,8 +16,8 @@ mod streams;
 mod trouble;
 mod values;
 
-pub use numbers::whole_number;
+pub use numbers::{skip, whole_number};
 pub use options::well_attrs;
-pub use reader::{count_lines, first_line, parse_script};
+pub use reader::{count_lines, first_line, parse_script, skips};
 pub use script_lines::{Line, ScriptAnswer, ScriptWhy, Server, WellOptions};
 pub use script_printer::{print_line, print_note, print_script};

@@ -25,9 +25,9 @@ const MAX_WORKERS: u64 = 8;
 /// The last moment that a script names, in nanoseconds.
 const LAST_TIME: i64 = 9_000_000_000_000_000_000;
 
-/// What follows the word, where the bytes begin with it.
+/// What follows the word; none exactly where the bytes do not begin with it. It takes no memory.
 #[tactic(auto, using(script_grammar::proofs::Words::skipped_is))]
-pub(crate) fn skip<'a>(bytes: &'a [u8], word: &[u8]) -> Option<&'a [u8]>
+pub fn skip<'a>(bytes: &'a [u8], word: &[u8]) -> Option<&'a [u8]>
     ensures { skipped word.now bytes.now ≡ option_map (λ rest. rest.now) result }
 {
     bytes.strip_prefix(word)

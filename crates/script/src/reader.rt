@@ -33,8 +33,8 @@ pub fn first_line(bytes: &[u8]) -> (&[u8], &[u8])
     }
 }
 
-/// Whether the line is skipped.
-fn skips(raw: &[u8]) -> bool
+/// Whether a line, without its LF, is skipped: it is empty, or begins with `#`. It takes no memory.
+pub fn skips(raw: &[u8]) -> bool
     ensures { result ≡ is_skipped raw.now }
 {
     match raw {

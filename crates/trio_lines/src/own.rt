@@ -1,18 +1,10 @@
 //! Reading of the lines that three servers alone have.
 ghost use Rattle.std.specs.Prelude.{◌≡◌, option_map, is_some};
-ghost use Rattle.script_grammar.specs.Reading.{skipped, alone, whole};
+ghost use Rattle.script_grammar.specs.Reading.{alone, whole};
 ghost use Rattle.trio_lines.specs.LineReading.{trio_server_at, arm_c_at, mirror_at, ack_at, own_line_at};
 
 use crate::line::{TrioLine, TrioServer};
-use script::whole_number;
-
-/// What follows the word, where the bytes begin with it.
-#[tactic(auto, using(script_grammar::proofs::Words::skipped_is))]
-fn skip<'a>(bytes: &'a [u8], word: &[u8]) -> Option<&'a [u8]>
-    ensures { skipped word.now bytes.now ≡ option_map (λ rest. rest.now) result }
-{
-    bytes.strip_prefix(word)
-}
+use script::{skip, whole_number};
 
 /// The line, where nothing follows it.
 fn ending(line: TrioLine, rest: &[u8]) -> Option<TrioLine>

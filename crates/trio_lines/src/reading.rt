@@ -3,7 +3,6 @@ ghost use Rattle.std.specs.Prelude.{◌≡◌, ◌+◌, ◌≤◌, ◌⊎◌, �
 ghost use Rattle.std.specs.Prelude.{OnOk, IfOk, IfErr, MatchOption, MatchResult, IsErrAnd};
 ghost use Rattle.script_lines.specs.declared.line.Line.{Line};
 ghost use Rattle.script_language.specs.Scripts.{raw_lines};
-ghost use Rattle.script_language.specs.ScriptReading.{is_skipped};
 ghost use Rattle.trio_lines.specs.Scripts.{AreMasked, IsTrioOf, IsBadTrioAt};
 ghost use Rattle.trio_lines.specs.Answers.{TellsTrio, JudgesTrio};
 ghost use Rattle.trio_lines.specs.Weaving.{BeginsOwn, PutsMasked, Fits, IsWoven, Weaves};
@@ -11,21 +10,11 @@ ghost use Rattle.trio_lines.specs.Weaving.{BeginsOwn, PutsMasked, Fits, IsWoven,
 use crate::line::TrioLine;
 use crate::own::{is_own, own_line};
 use ais_values::Seq;
-use script::{first_line, parse_script};
+use script::{first_line, parse_script, skips};
 use script_lines::{Line, ScriptAnswer, ScriptWhy};
 use script_printer::put;
 use std::alloc::{AllocError, Global};
 use std::vec::IntoIter;
-
-/// Whether the line is skipped.
-fn skips(raw: &[u8]) -> bool
-    ensures { result ≡ is_skipped raw.now }
-{
-    match raw {
-        [] => true,
-        [first, ..] => *first == b'#',
-    }
-}
 
 /// The number of the first line that is not skipped, where it is an own one.
 fn early_line(bytes: &[u8]) -> Option<u32>
