@@ -10,7 +10,7 @@ use Rattle.plain_service.specs.Setups.{Setup}
 use Rattle.service_core.specs.Beginning.{BeginsAs}
 use Rattle.cluster_lines.specs.Beginning.{Begins}
 use Rattle.cluster_lines.proofs.BeginSpelled.{spelled-begins}
-use Rattle.command_journal.specs.Starting.{wells_of}
+use Rattle.script_language.specs.Streams.{wells_of}
 
 -- what that begins as
 pub begins-as : (one : Line) (start : ℤ) (queue callbacks : ℕ) (alarm ntf sys : WellOptions) (wells : List StreamAttrs) → one ≡ Cluster start queue callbacks alarm ntf sys → wells ≡ wells_of alarm ntf sys

@@ -1,11 +1,7 @@
 -- Words of bodies alone: the steps of a start.
-use Rattle.std.specs.Prelude.{◌≡◌, ℕ, ℤ, false, List, [], ◌∷◌}
-use Rattle.ais_values.specs.declared.kind.StreamKind.TheVariants.{Alarm, Notification, System}
+use Rattle.std.specs.Prelude.{◌≡◌, ℕ, ℤ, false, List, []}
 use Rattle.calls.specs.History.{empty_history}
-use Rattle.stream_config.specs.declared.attrs.StreamAttrs.{StreamAttrs}
 use Rattle.stream_layout.specs.declared.deed.Deed.{Deed}
-use Rattle.script_lines.specs.declared.line.WellOptions.{WellOptions}
-use Rattle.script_language.specs.Streams.{well_attrs}
 use Rattle.wire.specs.declared.message.Message.{Message}
 use Rattle.wire.specs.declared.message.Message.TheVariants.{Snapshot}
 use Rattle.plain_service.specs.Setups.{Setup}
@@ -21,10 +17,6 @@ use Rattle.disk_model.specs.declared.answers.DiskAnswer.{DiskAnswer}
 use Rattle.disk_model.specs.declared.answers.DiskAnswer.TheVariants as answers
 use Rattle.command_journal.specs.declared.answer.EventAnswer.{EventAnswer}
 use Rattle.command_journal.specs.declared.answer.EventAnswer.TheVariants.{Memory, DiskFault}
-
--- the attributes that a cluster line gives to the well-known streams
-abbrev pub wells_of : WellOptions → WellOptions → WellOptions → List StreamAttrs
-wells_of alarm ntf sys = well_attrs Alarm alarm ∷ well_attrs Notification ntf ∷ well_attrs System sys ∷ []
 
 -- the message that brings the value of the empty history
 abbrev pub first_message : Setup → Message

@@ -11,19 +11,19 @@ ghost use Rattle.service_core.specs.Beginning.{BeginsAs, CanBeginAs};
 ghost use Rattle.played_runs.specs.Views.{HoldsNone};
 ghost use Rattle.command_journal.specs.Beginning.{Begun, LeavesStart};
 ghost use Rattle.command_journal.specs.Playing.{RisesInEvent};
-ghost use Rattle.command_journal.specs.Starting.{broken_by, wells_of, world_of, Opens, Starts};
+ghost use Rattle.command_journal.specs.Starting.{broken_by, world_of, Opens, Starts};
 ghost use Rattle.command_journal.specs.Worlds.{both, empty_cold};
 
 use crate::{ColdWorld, EventAnswer};
-use ais_values::{Seq, StreamKind};
+use ais_values::Seq;
 use calls::{Boxed, History, Saved};
 use disk_model::{DiskAnswer, SharedDisk};
 use journal_start::Journal;
 use lone_server::link_journal;
 use message_net::Net;
 use mirror::{Node, Role, let_node_go};
-use script::well_attrs;
-use script_lines::{Line, WellOptions};
+use script::wells_of;
+use script_lines::Line;
 use service_core::Service;
 use std::alloc::{AllocError, Global};
 use std::mem;
@@ -41,22 +41,6 @@ struct Opening {
     deeds: Seq<Deed>,
     start: i64,
     callbacks: u32,
-}
-
-/// The attributes of the well-known streams.
-fn wells_of(
-    alloc: Global,
-    alarm: &WellOptions,
-    ntf: &WellOptions,
-    sys: &WellOptions,
-) -> Result<Seq<StreamAttrs>, AllocError>
-    ensures { IfOk result (λ wells. wells ≡ wells_of alarm.now ntf.now sys.now) }
-{
-    let mut wells = Seq::new(alloc);
-    wells.push(well_attrs(alloc, StreamKind::Alarm, alarm)?)?;
-    wells.push(well_attrs(alloc, StreamKind::Notification, ntf)?)?;
-    wells.push(well_attrs(alloc, StreamKind::System, sys)?)?;
-    Ok(wells)
 }
 
 /// The server of a service, active and linked to its journal.

@@ -30,7 +30,8 @@ use Rattle.cluster_lines.proofs.BeginSpelled.{spelled-begins}
 use Rattle.played_runs.specs.Views.{HoldsNone, LackedDeeds, behind_deeds, counters_of}
 use Rattle.played_runs.specs.Games.{LeavesOpening}
 use Rattle.played_runs.proofs.CountSteps.{other-stood}
-use Rattle.group_begin.specs.Starting.{wells_of, broken_by}
+use Rattle.script_language.specs.Streams.{wells_of}
+use Rattle.group_begin.specs.Starting.{broken_by}
 
 pub files-start : (setup : Setup) (places : ℕ) (held left : Option Files) → CanBegin setup → HoldsNone held → left ≡ option_map (all_applied (calls_of_all (opening_of setup))) held → LeavesFiles setup (group_start (B ∷ []) setup.start places) held left
 files-start setup places None left begins none done = done

@@ -1,13 +1,9 @@
 -- Words of public clauses: how the servers of a group begin.
 use Rattle.std.specs.Prelude.{◌≡◌, List, [], ◌∷◌}
-use Rattle.ais_values.specs.declared.kind.StreamKind.TheVariants.{Alarm, Notification, System}
-use Rattle.stream_config.specs.declared.attrs.StreamAttrs.{StreamAttrs}
 use Rattle.stream_layout.specs.declared.deed.Deed.{Deed}
 use Rattle.disk_model.specs.declared.answers.DiskAnswer.{DiskAnswer}
 use Rattle.disk_model.specs.declared.answers.DiskAnswer.TheVariants as answers
-use Rattle.script_lines.specs.declared.line.WellOptions.{WellOptions}
 use Rattle.script_lines.specs.declared.line.Server.TheVariants.{B}
-use Rattle.script_language.specs.Streams.{well_attrs}
 use Rattle.plain_service.specs.Setups.{Setup}
 use Rattle.plain_service.specs.Storing.{opening_of}
 use Rattle.mirror.specs.declared.state.NodeState.{NodeState as Node}
@@ -16,10 +12,6 @@ use Rattle.cluster_clients.specs.declared.answer.EventAnswer.{EventAnswer}
 use Rattle.cluster_clients.specs.declared.answer.EventAnswer.TheVariants.{Memory, DiskFault}
 use Rattle.group_cluster.specs.Group.{group_start}
 use Rattle.lead_rounds.specs.Nodes.{active_by}
-
--- the attributes that a cluster line gives to the well-known streams
-abbrev pub wells_of : WellOptions → WellOptions → WellOptions → List StreamAttrs
-wells_of alarm ntf sys = well_attrs Alarm alarm ∷ well_attrs Notification ntf ∷ well_attrs System sys ∷ []
 
 -- the active server at the start of a setup, tied to each standby
 abbrev pub active_at : Setup → Node

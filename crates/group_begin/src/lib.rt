@@ -2,39 +2,22 @@
 #![tactic(auto)]
 
 ghost use Rattle.std.specs.Prelude.{◌≡◌, false, [], IfOk};
-ghost use Rattle.ais_values.specs.declared.kind.StreamKind.TheVariants.{Alarm, Notification, System};
 ghost use Rattle.plain_service.specs.Setups.{Setup};
 ghost use Rattle.service_core.specs.Beginning.{BeginsAs, CanBeginAs};
 ghost use Rattle.lead_rounds.specs.Nodes.{standby_by};
-ghost use Rattle.group_begin.specs.Starting.{wells_of, Starts, broken_by};
+ghost use Rattle.group_begin.specs.Starting.{Starts, broken_by};
 
-use ais_values::{Seq, StreamKind};
+use ais_values::Seq;
 use cluster_clients::EventAnswer;
 use disk_model::DiskAnswer;
 use mirror::{Node, Role, let_heard_go, let_node_go};
-use script::well_attrs;
-use script_lines::WellOptions;
 use service_core::Service;
 use std::alloc::{AllocError, Global};
 use std::mem;
 use stream_config::StreamAttrs;
 use stream_layout::Deed;
 
-/// The attributes of the well-known streams, as a cluster line has them. `Err` comes only for want of memory.
-pub fn wells_of(
-    alloc: Global,
-    alarm: &WellOptions,
-    ntf: &WellOptions,
-    sys: &WellOptions,
-) -> Result<Seq<StreamAttrs>, AllocError>
-    ensures { IfOk result (λ wells. wells ≡ wells_of alarm.now ntf.now sys.now) }
-{
-    let mut wells = Seq::new(alloc);
-    wells.push(well_attrs(alloc, StreamKind::Alarm, alarm)?)?;
-    wells.push(well_attrs(alloc, StreamKind::Notification, ntf)?)?;
-    wells.push(well_attrs(alloc, StreamKind::System, sys)?)?;
-    Ok(wells)
-}
+pub use script::wells_of;
 
 /// The active server at the start, tied to each standby, and the deeds of the start. What it would send these is left out, since they
 /// begin with the same. `Err` comes only for want of memory.

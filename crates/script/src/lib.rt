@@ -17,7 +17,7 @@ mod trouble;
 mod values;
 
 pub use numbers::{skip, whole_number};
-pub use options::well_attrs;
+pub use options::{well_attrs, wells_of};
 pub use reader::{count_lines, first_line, parse_script, skips};
 pub use script_lines::{Line, ScriptAnswer, ScriptWhy, Server, WellOptions};
 pub use script_printer::{print_line, print_note, print_script};

@@ -5,7 +5,7 @@ ghost use Rattle.stream_config.specs.AttributeTests.{passes_attrs};
 ghost use Rattle.script.specs.Gives.{Gives};
 ghost use Rattle.script_grammar.specs.Reading.{maybe};
 ghost use Rattle.script_grammar.specs.ValueReading.{quoted_at};
-ghost use Rattle.script_language.specs.Streams.{well_attrs};
+ghost use Rattle.script_language.specs.Streams.{well_attrs, wells_of};
 ghost use Rattle.script_language.specs.StreamReading.{full_action_at, options_at};
 ghost use Rattle.script_language.specs.ValueReading.{number32_at, number64_at};
 
@@ -13,7 +13,7 @@ use crate::numbers::{number32, number64, skip_both};
 use crate::quoted::quoted;
 use crate::streams::full_action;
 use crate::trouble::Trouble;
-use ais_values::{Duplicate, StreamKind, Text};
+use ais_values::{Duplicate, Seq, StreamKind, Text};
 use script_lines::WellOptions;
 use std::alloc::{AllocError, Global};
 use stream_config::{FullAction, StreamAttrs, check_attrs, well_known};
@@ -133,6 +133,23 @@ pub fn well_attrs(
     attrs.action = options.full.unwrap_or(attrs.action);
     attrs.rotated = options.rot.unwrap_or(attrs.rotated);
     Ok(attrs)
+}
+
+/// The attributes that a cluster line gives to the three well-known streams, in the order in which they are made: alarm,
+/// notification, system. `Err` comes only for want of memory.
+pub fn wells_of(
+    alloc: Global,
+    alarm: &WellOptions,
+    ntf: &WellOptions,
+    sys: &WellOptions,
+) -> Result<Seq<StreamAttrs>, AllocError>
+    ensures { IfOk result (λ wells. wells ≡ wells_of alarm.now ntf.now sys.now) }
+{
+    let mut wells = Seq::new(alloc);
+    wells.push(well_attrs(alloc, StreamKind::Alarm, alarm)?)?;
+    wells.push(well_attrs(alloc, StreamKind::Notification, ntf)?)?;
+    wells.push(well_attrs(alloc, StreamKind::System, sys)?)?;
+    Ok(wells)
 }
 
 /// Whether the well-known stream of a kind may have what the options say.

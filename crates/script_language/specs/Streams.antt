@@ -109,3 +109,8 @@ optioned defaults options = record {
 
 abbrev pub well_attrs : StreamKind → WellOptions → StreamAttrs
 well_attrs kind options = optioned (default_attrs kind) options
+
+-- those that it gives to all three, in the order in which they are made
+abbrev pub wells_of : WellOptions → WellOptions → WellOptions → List StreamAttrs
+wells_of alarm ntf sys =
+    well_attrs kinds.Alarm alarm ∷ well_attrs kinds.Notification ntf ∷ well_attrs kinds.System sys ∷ []
