@@ -5,4 +5,4 @@ mod civil;
 mod stamp;
 
 pub use civil::{Civil, LAST_SECOND, civil_at, law_of_civil_times};
-pub use stamp::{digits_of, stamp_at, stamps_tell_seconds};
+pub use stamp::{digits_of, law_of_stamps, stamp_at};

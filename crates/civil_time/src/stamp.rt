@@ -32,7 +32,7 @@ pub fn stamp_at(second: u64) -> [u8; 15]
 }
 
 /// No two seconds have one stamp.
-pub fn stamps_tell_seconds()
+pub fn law_of_stamps()
     ensures { (one other : ℕ) → one ≤ last_second → other ≤ last_second
         → stamp_of one ≡ stamp_of other → one ≡ other }
 {}
