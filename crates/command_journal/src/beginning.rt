@@ -170,7 +170,7 @@ fn world_of(alloc: Global, opening: Opening, journal: Journal) -> ColdWorld
 }
 
 /// Why the start was not done: nothing is printed.
-fn broken(alloc: Global, answer: DiskAnswer) -> EventAnswer
+fn unbegun(alloc: Global, answer: DiskAnswer) -> EventAnswer
     ensures { result ≡ broken_by answer }
 {
     match answer {
@@ -225,7 +225,7 @@ impl ColdWorld {
             Ok(()) => {}
             Err(answer) => {
                 let_opening_go(opening);
-                return Err(broken(alloc, answer));
+                return Err(unbegun(alloc, answer));
             }
         }
         match Journal::make(alloc, journal, &opening.snapshot) {
@@ -235,7 +235,7 @@ impl ColdWorld {
             }
             Err(answer) => {
                 let_opening_go(opening);
-                Err(broken(alloc, answer))
+                Err(unbegun(alloc, answer))
             }
         }
     }
