@@ -5,7 +5,7 @@ ghost use Rattle.cluster_clients.specs.Fetching.{IsReadAs};
 
 use message_net::Net;
 use std::alloc::{AllocError, Global};
-use wire::{Message, WireAnswer, WireWhy, decode, law_of_spellings};
+use wire::{MAX_SPELLING, Message, WireAnswer, WireWhy, decode, law_of_spellings};
 
 /// What a byte string of the net is.
 #[derive(PartialEq, Drop)]
@@ -16,14 +16,11 @@ pub enum Fetched {
     Bad { front: u32, why: WireWhy },
 }
 
-/// A longer string of the net is not read.
-const BYTES: usize = 4_294_967_294;
-
 /// What these bytes are. Where they are more than 4,294,967,294, it answers as if memory ran out.
 pub(crate) fn read_string(alloc: Global, bytes: &[u8]) -> Result<Fetched, AllocError>
     ensures { IfOk result (λ fetched. IsReadAs bytes.now fetched) }
 {
-    if bytes.len() > BYTES {
+    if bytes.len() > MAX_SPELLING {
         return Err(AllocError);
     }
     match decode(alloc, bytes) {

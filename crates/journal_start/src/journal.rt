@@ -10,7 +10,7 @@ ghost use Rattle.journal_start.specs.Journals.{made_of, longer_by, pushed, Perfo
 use disk_model::{DiskAnswer, SharedDisk};
 use journal_frames::{append_text, behind_gate, make_file};
 use std::alloc::{AllocError, Global};
-use wire::{Message, encode};
+use wire::{MAX_SPELLING, Message, encode};
 
 /// A journal of more bytes or messages takes no further one.
 const MAX_JOURNAL: u64 = 9_000_000_000_000_000_000;
@@ -28,7 +28,7 @@ fn spelled(alloc: Global, message: &Message) -> Result<Vec<u8>, AllocError>
     ensures { IfOk result (λ bytes. Spelled message.now bytes.items) }
 {
     let text = encode(alloc, message)?;
-    if text.len() > 4_294_967_294 {
+    if text.len() > MAX_SPELLING {
         drop(text);
         return Err(AllocError);
     }
