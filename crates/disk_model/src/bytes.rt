@@ -51,6 +51,7 @@ pub fn read_from(bytes: &[u8], at: usize, buf: &mut [u8]) -> usize
     count
 }
 
+// The byte at a place of a torn range, counted from its start.
 fn torn_at(torn: &[u8], place: usize) -> u8
     ensures { result ≡ torn_byte torn.now place }
 {
@@ -70,6 +71,7 @@ pub fn overwrite_torn(bytes: &mut Vec<u8>, at: usize, size: usize, torn: &[u8])
     }
 }
 
+// Tears one range (place, length), as far as the bytes reach.
 fn tear_range(bytes: &mut Vec<u8>, range: (u64, u64), torn: &[u8])
     ensures { bytes.new.items ≡ range_torn torn.now range bytes.old.items }
 {

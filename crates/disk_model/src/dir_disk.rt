@@ -69,12 +69,14 @@ impl<R: Files + AllocGlobal + Drop> DirDisk<R> {
         }
     }
 
+    // Counts a reading call.
     fn count_read(&mut self)
         ensures { self.new ≡ record self.old { tally = read_more 1 self.old.tally } }
     {
         self.tally.read();
     }
 
+    // Counts a fault.
     fn count_fault(&mut self)
         ensures later { self.old.faults ≤ self.new.faults }
         ensures counted { self.new ≡ record self.old { faults = one_more self.old.faults } }

@@ -13,6 +13,7 @@ use crate::stored_file::StoredFile;
 use ais_values::{Duplicate, Text};
 use std::alloc::{AllocError, Global};
 
+// Where a name stands, or would stand, by halving.
 fn place_in(entries: &[(Text, StoredFile)], name: &[u8]) -> usize
     requires { IsTrue (is_sorted (slice_cmp nat_cmp) entries.now) }
     ensures place { result ≡ place_of (slice_cmp nat_cmp) name.now entries.now }

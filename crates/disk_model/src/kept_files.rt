@@ -18,6 +18,7 @@ struct KeptFile<R: Files> {
 }
 
 impl<R: Files> KeptFile<R> {
+    // A file that was just opened, of this length.
     fn new(alloc: Global, name: &[u8], file: R::File, len: u64) -> KeptFile<R> {
         KeptFile {
             name: name.to_vec(alloc).ok(),
@@ -26,6 +27,7 @@ impl<R: Files> KeptFile<R> {
         }
     }
 
+    // Whether the file is kept under this name.
     fn is_named(&self, name: &[u8]) -> bool {
         match &self.name {
             Some(own) => own.as_slice() == name,
@@ -44,6 +46,7 @@ impl<R: Files> KeptFile<R> {
         Ok(())
     }
 
+    // A file that is not longer stays as it is.
     fn cut(&mut self, len: u64) -> io::Result<()> {
         if len >= self.len {
             return Ok(());

@@ -91,6 +91,7 @@ impl MemDisk {
         self.shelf.put(self.alloc, name, file)
     }
 
+    // Whether the next changing call is one that was told to fail.
     fn fails(&self) -> bool
         ensures { result ≡ fails_next self.now }
     {
@@ -98,6 +99,7 @@ impl MemDisk {
             .contains(&self.tally.changing.saturating_add(1))
     }
 
+    // Whether the next reading call is one.
     fn read_fails(&self) -> bool
         ensures { result ≡ read_fails_next self.now }
     {
@@ -105,12 +107,14 @@ impl MemDisk {
             .contains(&self.tally.reading.saturating_add(1))
     }
 
+    // Counts a reading call.
     fn count_read(&mut self)
         ensures { self.new ≡ record self.old { tally = read_more 1 self.old.tally } }
     {
         self.tally.read();
     }
 
+    // Counts a fault.
     fn count_fault(&mut self)
         ensures counted { self.new ≡ record self.old { faults = one_more self.old.faults } }
         ensures later { self.old.faults ≤ self.new.faults }

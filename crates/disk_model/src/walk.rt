@@ -15,7 +15,8 @@ struct Found {
     folders: Vec<String>,
 }
 
-fn answer(error: io::Error) -> DiskAnswer {
+// What the system's answer is to who asked for the names.
+fn answer_of(error: io::Error) -> DiskAnswer {
     if error.kind() == ErrorKind::OutOfMemory {
         DiskAnswer::Memory
     } else {
@@ -37,7 +38,8 @@ fn name_of(alloc: Global, root: Root, path: &str) -> Result<Vec<u8>, DiskAnswer>
     Ok(name.to_vec(alloc)?)
 }
 
-fn note<R: Files>(
+// Notes what stands in a folder: a file by its name, and a folder to be listed itself.
+fn note_entry<R: Files>(
     alloc: Global,
     root: Root,
     entry: &DirEntry<R, Global>,
@@ -47,7 +49,7 @@ fn note<R: Files>(
     let path = path.as_str();
     let kind = match entry.file_type() {
         Ok(kind) => kind,
-        Err(error) => return Err(answer(error)),
+        Err(error) => return Err(answer_of(error)),
     };
     if kind.is_dir() {
         let folder = String::from_str(alloc, path)?;
@@ -62,7 +64,8 @@ fn note<R: Files>(
     Ok(())
 }
 
-fn list<R: Files + AllocGlobal + Clone + Drop>(
+// Notes all that stands in a folder.
+fn note_folder<R: Files + AllocGlobal + Clone + Drop>(
     rt: &R,
     alloc: Global,
     root: Root,
@@ -71,17 +74,18 @@ fn list<R: Files + AllocGlobal + Clone + Drop>(
 ) -> Result<(), DiskAnswer> {
     let entries = match fs::read_dir(rt, folder) {
         Ok(entries) => entries,
-        Err(error) => return Err(answer(error)),
+        Err(error) => return Err(answer_of(error)),
     };
     for entry in entries {
         match entry {
-            Ok(entry) => note(alloc, root, &entry, found)?,
-            Err(error) => return Err(answer(error)),
+            Ok(entry) => note_entry(alloc, root, &entry, found)?,
+            Err(error) => return Err(answer_of(error)),
         }
     }
     Ok(())
 }
 
+// The names of all files below the root, folder by folder. Folders wait in a list, so that no call nests.
 fn walk<R: Files + AllocGlobal + Clone + Drop>(
     rt: &R,
     alloc: Global,
@@ -91,12 +95,12 @@ fn walk<R: Files + AllocGlobal + Clone + Drop>(
         names: Vec::new(alloc),
         folders: Vec::new(alloc),
     };
-    list(rt, alloc, root, root.folder(), &mut found)?;
+    note_folder(rt, alloc, root, root.folder(), &mut found)?;
     for _ in 0..u64::MAX {
         let Some(folder) = found.folders.pop() else {
             return Ok(found.names);
         };
-        list(rt, alloc, root, folder.as_str(), &mut found)?;
+        note_folder(rt, alloc, root, folder.as_str(), &mut found)?;
     }
     Err(DiskAnswer::Failed)
 }
@@ -126,7 +130,7 @@ pub fn all_names<R: Files + AllocGlobal + Clone + Drop>(
 ) -> Result<Seq<Text>, DiskAnswer> {
     match make_folders(rt, root.folder()) {
         Ok(()) => {}
-        Err(error) => return Err(answer(error)),
+        Err(error) => return Err(answer_of(error)),
     }
     let mut names = walk(rt, alloc, root)?;
     names.sort()?;

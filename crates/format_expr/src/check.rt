@@ -43,6 +43,7 @@ pub fn takes_class(kind: StreamKind, letter: u8) -> bool
     }
 }
 
+/// Behind a byte where no token goes on.
 fn at_plain(byte: u8) -> Result<Stand, ExprWhy>
     ensures { result ≡ plain_step byte }
 {
@@ -53,6 +54,7 @@ fn at_plain(byte: u8) -> Result<Stand, ExprWhy>
     }
 }
 
+/// Behind the byte that follows `@`.
 fn at_class(kind: StreamKind, byte: u8) -> Result<Stand, ExprWhy>
     ensures { result ≡ class_step kind byte }
 {
@@ -65,6 +67,7 @@ fn at_class(kind: StreamKind, byte: u8) -> Result<Stand, ExprWhy>
     }
 }
 
+/// Behind a further digit of a width.
 fn at_digit(width: u8, digit: u8) -> Result<Stand, ExprWhy>
     requires { digit < 10 }
     ensures { result ≡ width_step width digit }
@@ -80,6 +83,7 @@ fn at_digit(width: u8, digit: u8) -> Result<Stand, ExprWhy>
     }
 }
 
+/// Where the reading stands behind one byte more, or why no expression goes on with it.
 fn step(kind: StreamKind, stand: Stand, byte: u8) -> Result<Stand, ExprWhy>
     ensures { result ≡ step_of kind stand byte }
 {
@@ -97,6 +101,7 @@ fn step(kind: StreamKind, stand: Stand, byte: u8) -> Result<Stand, ExprWhy>
     }
 }
 
+/// Why no expression ends here, if none does.
 fn end(stand: Stand) -> Option<ExprWhy>
     ensures { result ≡ end_of stand }
 {

@@ -11,6 +11,7 @@ use crate::{Expr, ExprAnswer, MAX_EXPR, Piece, Token, check_expr, part_of};
 use ais_values::{Seq, StreamKind, Text};
 use std::alloc::{AllocError, Global};
 
+/// The value of the decimal digit at a place, where one stands there.
 fn digit_at(bytes: &[u8], place: usize) -> Option<u8>
     ensures value { result ≡ digit_of (slice_get bytes.now place) }
     ensures small { IfSome result (λ digit. digit < 10) }

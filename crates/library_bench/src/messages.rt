@@ -47,6 +47,7 @@ fn write_of(alloc: Global, number: u32) -> Result<Call, AllocError> {
     })
 }
 
+/// An alarm of this number.
 fn alarm_of(alloc: Global, number: u32) -> Result<Notification, AllocError> {
     Ok(Notification {
         id: u64::from(number),

@@ -179,30 +179,35 @@ impl LiveStream {
         self.mark = mark;
     }
 
+    /// Whether the stream has this name.
     pub(crate) fn is_named(&self, name: &StreamName) -> bool
         ensures { result ≡ is_named name.now self.now }
     {
         self.state.name == *name
     }
 
+    /// Whether the client has the stream open.
     pub(crate) fn is_open_for(&self, client: u16) -> bool
         ensures { result ≡ has client self.now.openers }
     {
         self.openers.contains(client)
     }
 
+    /// Whether the stream is an application's.
     pub(crate) fn is_of_application(&self) -> bool
         ensures { result ≡ is_of_application self.now }
     {
         matches!(self.state.name, StreamName::App { .. })
     }
 
+    /// Whether the stream has these attributes.
     pub(crate) fn has_attrs(&self, attrs: &StreamAttrs) -> bool
         ensures { result ≡ same_attrs attrs.now self.now.state.attrs }
     {
         *attrs == self.state.attrs
     }
 
+    /// Whether a stream of these attributes would have the place of this one.
     pub(crate) fn has_place_of(&self, attrs: &StreamAttrs) -> bool
         ensures { result ≡ have_one_place self.now.state.attrs attrs.now }
     {

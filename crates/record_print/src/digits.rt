@@ -28,6 +28,7 @@ fn hex_array<const N: usize>(number: u64) -> [u8; N]
     digits
 }
 
+/// The first three letters of a month, from 1 on.
 fn month_name(month: u8) -> &'static str
     requires low { 1 ≤ month }
     requires high { month ≤ 12 }
@@ -36,6 +37,7 @@ fn month_name(month: u8) -> &'static str
     MONTHS[usize::from(month) - 1].name
 }
 
+/// The first three letters of a day of the week, from 0 for Monday on.
 fn day_name(weekday: u8) -> &'static str
     requires { weekday ≤ 6 }
     ensures { result.now ≡ slice_index_or day_names weekday [] }
@@ -43,6 +45,7 @@ fn day_name(weekday: u8) -> &'static str
     DAYS[usize::from(weekday)]
 }
 
+/// The two letters of a severity, from 0 to 6.
 pub(crate) fn severity_name(severity: u16) -> &'static str
     requires { severity ≤ 6 }
     ensures { result.now ≡ slice_index_or severity_names severity [] }

@@ -28,6 +28,7 @@ pub(crate) struct Figures {
     event: Option<Clock>,
 }
 
+/// The class that a header names.
 fn class_in(header: &Header) -> ClassId
     ensures { result ≡ class_of header.now }
 {
@@ -41,6 +42,7 @@ fn class_in(header: &Header) -> ClassId
 impl Sheet {
     ghost use Rattle.record_print.specs.Sheets.{Adds, Keeps};
 
+    /// Adds the id in a notification's header; of a generic header nothing, here and below.
     fn put_id(&mut self, header: &Header)
         ensures { Adds self.old self.new (id_text header.now) }
     {
@@ -50,6 +52,7 @@ impl Sheet {
         }
     }
 
+    /// Adds the event type.
     fn put_event_type(&mut self, header: &Header)
         ensures { Adds self.old self.new (event_type_text header.now) }
     {
@@ -59,6 +62,7 @@ impl Sheet {
         }
     }
 
+    /// Adds the object that the notification is about.
     fn put_object(&mut self, header: &Header)
         ensures { Adds self.old self.new (object_text header.now) }
     {
@@ -68,6 +72,7 @@ impl Sheet {
         }
     }
 
+    /// Adds the object that notifies.
     fn put_notifier(&mut self, header: &Header)
         ensures { Adds self.old self.new (notifier_text header.now) }
     {
@@ -77,6 +82,7 @@ impl Sheet {
         }
     }
 
+    /// Adds the user in a generic header; of a notification's nothing, here and below.
     fn put_user(&mut self, header: &Header)
         ensures { Adds self.old self.new (user_text header.now) }
     {
@@ -86,6 +92,7 @@ impl Sheet {
         }
     }
 
+    /// Adds the two letters of the severity.
     fn put_severity(&mut self, header: &Header)
         requires { IsTrue (has_codes header.now) }
         ensures { Adds self.old self.new (severity_text header.now) }
@@ -149,6 +156,7 @@ impl Sheet {
         }
     }
 
+    /// Adds a piece: plain bytes, or a token in its places.
     fn put_piece(&mut self, figures: &Figures, rec: &LogRecord, piece: &Piece)
         requires codes { IsTrue (has_codes rec.now.header) }
         requires open { IsOpen self.old }
@@ -163,6 +171,7 @@ impl Sheet {
         }
     }
 
+    /// Adds pieces, one behind the other.
     fn put_pieces(&mut self, figures: &Figures, rec: &LogRecord, pieces: &[Piece])
         requires codes { IsTrue (has_codes rec.now.header) }
         requires open { IsOpen self.old }
@@ -218,6 +227,7 @@ fn tells_cut(pieces: &[Piece]) -> bool
     false
 }
 
+/// The clock of the event time in a notification's header.
 fn event_clock(header: &Header, half: bool) -> Option<Clock>
     requires { IsTrue (has_codes header.now) }
     ensures { MatchOption result (event_time header.now ≡ None)
@@ -230,6 +240,7 @@ fn event_clock(header: &Header, half: bool) -> Option<Clock>
 }
 
 impl Figures {
+    /// The figures of a record that is printed under this number, with a mark as if it were not cut.
     fn new(number: u32, rec: &LogRecord, pieces: &[Piece]) -> Figures
         requires { IsTrue (can_print rec.now) }
         ensures number { result.number ≡ number }

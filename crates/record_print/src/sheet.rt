@@ -33,6 +33,7 @@ fn printed_byte(byte: u8) -> u8
     if byte < 32 || byte == 127 { b'.' } else { byte }
 }
 
+/// Puts a `.` for each byte from 0 to 31 and 127.
 fn hide_controls(bytes: &mut [u8])
     ensures { bytes.new ≡ map shown_byte bytes.old }
 {

@@ -58,6 +58,7 @@ pub fn is_text(texts: &[Seq<u8>], token: u32, wanted: &[u8]) -> bool
     }
 }
 
+/// Whether the token of this number, counted from 1, has the wanted text in a record.
 fn has_text(
     alloc: Global,
     expr: &Expr,

@@ -31,6 +31,7 @@ fn second_variable(pieces: &[Piece]) -> Option<usize>
     None
 }
 
+/// Whether a text ends in another byte than a space.
 fn ends_in_another_byte(text: &[u8]) -> bool
     ensures { result ≡ ends_with (λ byte. not (is_space byte)) text.now }
 {
@@ -40,6 +41,7 @@ fn ends_in_another_byte(text: &[u8]) -> bool
     }
 }
 
+/// Whether a piece is plain text that does.
 fn is_end(piece: &Piece) -> bool
     ensures { result ≡ closes piece.now }
 {
@@ -49,6 +51,7 @@ fn is_end(piece: &Piece) -> bool
     }
 }
 
+/// Whether the last piece is.
 fn has_end(pieces: &[Piece]) -> bool
     ensures { result ≡ is_closed pieces.now }
 {

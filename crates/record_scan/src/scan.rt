@@ -40,6 +40,7 @@ fn trimmed(bytes: &[u8]) -> usize
     end
 }
 
+/// Whether there are spaces alone.
 fn are_spaces(bytes: &[u8]) -> bool
     ensures { IsTrue result ↔ EachIndex bytes.now (λ k. slice_index bytes.now k ≡ 32) }
 {

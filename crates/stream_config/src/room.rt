@@ -29,6 +29,7 @@ pub fn has_room(attrs: &StreamAttrs, bytes: u64, len: u32) -> bool
     bytes <= attrs.max_file && u64::from(len) <= attrs.max_file - bytes
 }
 
+/// Whether a new file is begun where one is full.
 fn is_rotating(action: FullAction) -> bool
     ensures { result ≡ is_rotating action }
 {

@@ -35,6 +35,7 @@ pub fn perform<D: SharedDisk>(disk: &mut D, deeds: &Seq<Deed>) -> Result<(), Dis
     Ok(())
 }
 
+/// Makes the device calls of one deed, up to the first that is not done; each function below those of one kind.
 fn perform_one<D: SharedDisk>(disk: &mut D, deed: &Deed) -> Result<(), DiskAnswer>
     ensures performs { Performs (calls_of deed.now) result (D.seen disk.old).files
         (D.seen disk.new).files (D.seen disk.old).tally (D.seen disk.new).tally }
@@ -52,6 +53,7 @@ fn perform_one<D: SharedDisk>(disk: &mut D, deed: &Deed) -> Result<(), DiskAnswe
     }
 }
 
+/// Makes a file anew, with these bytes.
 fn put<D: SharedDisk>(disk: &mut D, name: &Text, bytes: &Text) -> Result<(), DiskAnswer>
     ensures performs { Performs (CallCreate name.now ∷ CallWrite name.now 0 bytes.now
         ∷ CallSync name.now ∷ []) result (D.seen disk.old).files (D.seen disk.new).files
@@ -67,6 +69,7 @@ fn put<D: SharedDisk>(disk: &mut D, name: &Text, bytes: &Text) -> Result<(), Dis
     }
 }
 
+/// Makes an empty file.
 fn create<D: SharedDisk>(disk: &mut D, name: &Text) -> Result<(), DiskAnswer>
     ensures performs { Performs (CallCreate name.now ∷ []) result (D.seen disk.old).files
         (D.seen disk.new).files (D.seen disk.old).tally (D.seen disk.new).tally }
@@ -78,6 +81,7 @@ fn create<D: SharedDisk>(disk: &mut D, name: &Text) -> Result<(), DiskAnswer>
     disk.create(name.as_slice())
 }
 
+/// Writes bytes at a place of a file, and makes them durable.
 fn write_and_sync<D: SharedDisk>(
     disk: &mut D,
     name: &Text,
@@ -98,6 +102,7 @@ fn write_and_sync<D: SharedDisk>(
     }
 }
 
+/// Gives a file another name.
 fn rename<D: SharedDisk>(disk: &mut D, from: &Text, to: &Text) -> Result<(), DiskAnswer>
     ensures performs { Performs (CallRename from.now to.now ∷ []) result (D.seen disk.old).files
         (D.seen disk.new).files (D.seen disk.old).tally (D.seen disk.new).tally }
@@ -109,6 +114,7 @@ fn rename<D: SharedDisk>(disk: &mut D, from: &Text, to: &Text) -> Result<(), Dis
     disk.rename(from.as_slice(), to.as_slice())
 }
 
+/// Takes a file away.
 fn remove<D: SharedDisk>(disk: &mut D, name: &Text) -> Result<(), DiskAnswer>
     ensures performs { Performs (CallRemove name.now ∷ []) result (D.seen disk.old).files
         (D.seen disk.new).files (D.seen disk.old).tally (D.seen disk.new).tally }

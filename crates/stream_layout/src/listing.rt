@@ -214,6 +214,7 @@ fn ended(alloc: Global, before: &StreamState, closed: i64) -> Result<Seq<Deed>, 
     Ok(list)
 }
 
+/// The deeds of an event, by what happened.
 fn list_of(alloc: Global, event: &StreamEvent) -> Result<Seq<Deed>, AllocError>
     requires { IsFitEvent event.now }
     ensures { IfOk result (λ list. list ≡ deeds_of event.now) }
