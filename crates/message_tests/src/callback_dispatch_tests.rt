@@ -123,11 +123,6 @@ fn an_element_is_copied(rt: HostRuntime) {
 }
 
 #[test]
-fn laws_of_callback_dispatch() {
-    callback_dispatch::law_of_sharing();
-}
-
-#[test]
 fn two_takers_are_joined(rt: HostRuntime) -> Result<(), Fail> {
     let alloc = rt.alloc();
     let (queue, mut feeder, mut one) = CallbackQueue::make(&rt, alloc, 4)?;

@@ -122,7 +122,7 @@ fn the_active_server_stops_at_each_call(rt: HostRuntime) {
 }
 
 #[test]
-fn and_the_first_takeover_fails_at_each_call(rt: HostRuntime) {
+fn the_first_takeover_fails_at_each_call(rt: HostRuntime) {
     let alloc = rt.alloc();
     let goes = "server b down\nserver c active\n";
     for (call, number) in CALLS {
@@ -140,7 +140,7 @@ fn and_the_first_takeover_fails_at_each_call(rt: HostRuntime) {
 }
 
 #[test]
-fn and_the_second_fails_at_each_call(rt: HostRuntime) {
+fn both_takeovers_fail_at_each_call(rt: HostRuntime) {
     let alloc = rt.alloc();
     let goes = "server b down\nserver c down\ndisk fault\n";
     for (call, number) in CALLS {
