@@ -175,7 +175,7 @@ fn parsed(rt: &impl Abort, alloc: Global, text: &[u8]) -> Result<Seq<Line>, Scri
 }
 
 /// The bad line and why.
-fn told_by(rt: &impl Abort, alloc: Global, answer: ScriptAnswer) -> String {
+pub fn told_by(rt: &impl Abort, alloc: Global, answer: ScriptAnswer) -> String {
     let told = match answer {
         ScriptAnswer::Memory => Err(AllocError),
         ScriptAnswer::Bad { line, why } => format!(in alloc; "{line} {why}"),

@@ -1,8 +1,9 @@
 //! What no clause says of scripts for three servers: that calls succeed while there is memory, and that the clauses mean the written
 //! language.
+use crate::script_tests::told_by;
 use ais_values::Seq;
-use script::{ScriptAnswer, count_lines};
-use std::alloc::{AllocError, Global};
+use script::count_lines;
+use std::alloc::Global;
 use std::process::Abort;
 use trio_lines::{TrioLine, parse_trio, put_trio_line};
 
@@ -83,15 +84,6 @@ fn shared_count(lines: &Seq<TrioLine>) -> usize {
         }
     }
     count
-}
-
-/// The bad line and why.
-fn told_by(rt: &impl Abort, alloc: Global, answer: ScriptAnswer) -> String {
-    let told = match answer {
-        ScriptAnswer::Memory => Err(AllocError),
-        ScriptAnswer::Bad { line, why } => format!(in alloc; "{line} {why}"),
-    };
-    told.expect(rt, "memory")
 }
 
 // A script is read, is written so, and so many of its lines two servers have, too.
