@@ -262,7 +262,7 @@ fn each_breaks(rt: &impl Abort, alloc: Global, part: u32, rules: u32) {
 }
 
 #[test]
-fn values_that_keep_all_rules(rt: HostRuntime) {
+fn values_at_the_bounds_of_all_rules_fit(rt: HostRuntime) {
     assert!(rt; is_plan_fit(&rt, rt.alloc(), &sound()));
     for case in 0..16 {
         let mut plan = sound();
@@ -273,7 +273,7 @@ fn values_that_keep_all_rules(rt: HostRuntime) {
 }
 
 #[test]
-fn values_of_many(rt: HostRuntime) {
+fn greatest_counts_fit_and_one_more_or_a_reply_less_does_not(rt: HostRuntime) {
     for case in 0..6 {
         for more in 0..2 {
             let mut plan = sound();
@@ -285,7 +285,7 @@ fn values_of_many(rt: HostRuntime) {
 }
 
 #[test]
-fn rules_broken_one_at_a_time(rt: HostRuntime) {
+fn a_value_that_breaks_one_rule_does_not_fit(rt: HostRuntime) {
     let rules = [14, 12, 12, 16, 11, 12, 4, 6];
     for part in 0..8 {
         each_breaks(&rt, rt.alloc(), part, rules[part as usize]);
@@ -342,7 +342,7 @@ fn are_files_fit(rt: &impl Abort, alloc: Global, row: &str) -> bool {
 }
 
 #[test]
-fn files_have_their_records(rt: HostRuntime) {
+fn files_fit_where_they_have_their_records(rt: HostRuntime) {
     for row in FIT_FILES.split('\n') {
         assert!(rt; are_files_fit(&rt, rt.alloc(), row), "{row}");
     }

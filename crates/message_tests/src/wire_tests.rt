@@ -59,7 +59,7 @@ fn spelled(rt: &impl Abort, alloc: Global, message: Message, want: &[u8])
 }
 
 #[test]
-fn requests_replies_and_receipts(rt: HostRuntime) {
+fn requests_replies_and_receipts_are_spelled(rt: HostRuntime) {
     let alloc = rt.alloc();
     let request = Message::Request {
         client: 1,
@@ -82,7 +82,7 @@ fn requests_replies_and_receipts(rt: HostRuntime) {
 }
 
 #[test]
-fn a_mask_and_a_mark(rt: HostRuntime) {
+fn a_mask_and_a_mark_are_spelled(rt: HostRuntime) {
     let alloc = rt.alloc();
     let stream = StreamName::System;
     let request = Message::Request {
@@ -111,7 +111,7 @@ fn a_mask_and_a_mark(rt: HostRuntime) {
 }
 
 #[test]
-fn messages_of_servers(rt: HostRuntime) {
+fn messages_of_servers_are_spelled(rt: HostRuntime) {
     let alloc = rt.alloc();
     let entry = Entry::Called {
         client: 4096,
@@ -136,7 +136,7 @@ fn messages_of_servers(rt: HostRuntime) {
 }
 
 #[test]
-fn an_item(rt: HostRuntime) {
+fn an_item_is_spelled(rt: HostRuntime) {
     let alloc = rt.alloc();
     let mut lost = Seq::new(alloc);
     let one = Lost {
@@ -162,7 +162,7 @@ fn an_item(rt: HostRuntime) {
 }
 
 #[test]
-fn a_snapshot(rt: HostRuntime) {
+fn a_snapshot_is_spelled(rt: HostRuntime) {
     let alloc = rt.alloc();
     let mut log_users = Seq::new(alloc);
     log_users.push(0).expect(&rt, "memory");
@@ -266,7 +266,7 @@ fn saved_stream(rt: &impl Abort, alloc: Global) -> Message
 }
 
 #[test]
-fn a_stream_of_a_snapshot(rt: HostRuntime) {
+fn a_stream_of_a_snapshot_is_spelled(rt: HostRuntime) {
     let alloc = rt.alloc();
     let mut want = vec![in alloc; 0u8; 41].expect(&rt, "memory");
     want[0] = 7;
@@ -278,7 +278,7 @@ fn a_stream_of_a_snapshot(rt: HostRuntime) {
 }
 
 #[test]
-fn a_name_and_a_text(rt: HostRuntime) {
+fn the_name_of_an_application_stream_is_spelled(rt: HostRuntime) {
     let alloc = rt.alloc();
     let stream = StreamName::App {
         name: Name::new(alloc, b"w").expect(&rt, "memory"),

@@ -355,7 +355,7 @@ fn plays(
 /// A stream that halts takes two records; one that wraps takes five in one file; one that rotates has changed its
 /// file twice when it has the third.
 #[test]
-fn full_actions(rt: HostRuntime) {
+fn full_streams_halt_wrap_or_rotate(rt: HostRuntime) {
     let alloc = rt.alloc();
     let halts = plays(&rt, alloc, 64, FullAction::Halt, 2, SECOND + 2);
     assert!(rt; halts == Status::NoSpace);
@@ -381,7 +381,7 @@ fn asked(rt: &impl Abort, alloc: Global, state: &mut LogState) {
 
 /// Streams of applications are made, asked for again, and end when nobody has them open.
 #[test]
-fn application_streams(rt: HostRuntime) {
+fn application_streams_end_when_nobody_has_them_open(rt: HostRuntime) {
     let alloc = rt.alloc();
     let mut state = opened(&rt, alloc, 64, FullAction::Wrap);
     assert!(rt; init(&rt, alloc, &mut state, 2) == Status::Ok);
@@ -477,7 +477,7 @@ fn holds_64_application_streams(rt: HostRuntime) {
 
 /// The record of a notification is stored in the stream of its kind.
 #[test]
-fn stores_for_notifications(rt: HostRuntime) {
+fn notifications_are_stored_in_the_stream_of_their_kind(rt: HostRuntime) {
     let alloc = rt.alloc();
     let rec = notified(&rt, alloc);
     let mut state = opened(&rt, alloc, 64, FullAction::Wrap);
@@ -511,7 +511,7 @@ fn again(rt: &impl Abort, alloc: Global, stream: StreamState, mark: Mark) -> Log
 
 /// A state is made again of its parts.
 #[test]
-fn rebuilds(rt: HostRuntime) {
+fn a_state_is_made_again_of_its_parts(rt: HostRuntime) {
     let alloc = rt.alloc();
     let stream = alarm_state(&rt, alloc);
     let state = again(&rt, alloc, stream, mark(3, 64));
@@ -559,7 +559,7 @@ fn masks_let_severities_pass(rt: HostRuntime) {
 
 /// A record of a filtered severity is ok on a stream that is full, and refused only for what comes before the mask.
 #[test]
-fn filtered_before_room(rt: HostRuntime) {
+fn a_filtered_record_is_ok_on_a_full_stream(rt: HostRuntime) {
     let alloc = rt.alloc();
     let mut state = opened(&rt, alloc, 32, FullAction::Halt);
     let first = Some(mark(0, 127));
@@ -592,7 +592,7 @@ fn well_known_name(kind: StreamKind) -> StreamName {
 
 /// Which masks a client may set on which stream. One that is refused leaves the mark.
 #[test]
-fn masks_that_are_refused(rt: HostRuntime) {
+fn masks_that_are_refused_leave_the_mark(rt: HostRuntime) {
     let alloc = rt.alloc();
     let mut state = opened(&rt, alloc, 64, FullAction::Wrap);
     assert!(rt; init(&rt, alloc, &mut state, 2) == Status::Ok);
@@ -645,7 +645,7 @@ fn opened_and_set(rt: &impl Abort, alloc: Global, state: &mut LogState, name: &S
 
 /// A stream that is made lets all severities pass, and keeps its mask while it lives.
 #[test]
-fn marks_of_application_streams(rt: HostRuntime) {
+fn application_streams_keep_their_mark_while_they_live(rt: HostRuntime) {
     let alloc = rt.alloc();
     let mut state = opened(&rt, alloc, 64, FullAction::Wrap);
     assert!(rt; init(&rt, alloc, &mut state, 2) == Status::Ok);

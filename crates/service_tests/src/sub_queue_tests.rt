@@ -111,7 +111,7 @@ fn rebuilt(rt: &impl Abort, alloc: Global) -> SubQueue {
 
 /// A queue made of parts numbers its items from the first on, and goes on from there.
 #[test]
-fn rebuilds(rt: HostRuntime) {
+fn a_queue_made_of_parts_numbers_from_their_first(rt: HostRuntime) {
     let alloc = rt.alloc();
     let mut queue = rebuilt(&rt, alloc);
     offer(&rt, alloc, &mut queue, 11);

@@ -5,10 +5,10 @@ use std::alloc::{AllocError, Global};
 use std::process::Abort;
 
 #[test]
-fn codes_and_names(rt: HostRuntime) {
+fn codes_have_names_and_names_codes(rt: HostRuntime) {
     for (code, name) in [(0x3001, "state change"), (0x4002, "QoS")] {
-        assert!(rt; code_of(&EVENT_TYPES, name) == Some(code));
-        assert!(rt; name_of(&EVENT_TYPES, code) == Some(name));
+        assert!(rt; code_of(&EVENT_TYPES, name) == Some(code), "{name}");
+        assert!(rt; name_of(&EVENT_TYPES, code) == Some(name), "{code}");
     }
     assert!(rt; code_of(&MONTHS, "nothing") == None);
     assert!(rt; name_of(&MONTHS, 13) == None);
@@ -24,7 +24,7 @@ fn event_types_are_known(rt: &impl Abort) {
         (0x5005, true),
         (0x5006, false),
     ] {
-        assert!(rt; is_event_type(code) == found);
+        assert!(rt; is_event_type(code) == found, "{code}");
     }
 }
 
@@ -35,7 +35,7 @@ fn times_are_known(rt: &impl Abort) {
         (-1, false),
         (0, true),
     ] {
-        assert!(rt; is_time(time) == accepted);
+        assert!(rt; is_time(time) == accepted, "{time}");
     }
 }
 
@@ -69,12 +69,12 @@ fn statuses_have_their_rows(rt: HostRuntime) {
         Status::NoResources,
         Status::BadFlags,
     ] {
-        assert!(rt; has_its_row(&rt, rt.alloc(), status));
+        assert!(rt; has_its_row(&rt, rt.alloc(), status), "{status:?}");
     }
 }
 
 #[test]
-fn versions(rt: HostRuntime) {
+fn versions_are_negotiated(rt: HostRuntime) {
     let log = Version {
         release: b'A',
         major: 2,
@@ -152,10 +152,10 @@ fn names_and_texts_have_bounds(rt: HostRuntime) {
         (3, 126, true),
         (3, 127, false),
     ] {
-        assert!(rt; is_name(&rt, alloc, length, byte) == accepted);
+        assert!(rt; is_name(&rt, alloc, length, byte) == accepted, "{length} times {byte}");
     }
     for (length, accepted) in [(0, true), (16_384, true), (16_385, false)] {
-        assert!(rt; is_text(&rt, alloc, length) == accepted);
+        assert!(rt; is_text(&rt, alloc, length) == accepted, "{length}");
     }
     let text = Text::from_vec(vec![in alloc; 1, 2].expect(&rt, "memory"));
     assert!(rt; text.as_slice() == [1, 2].as_slice());
@@ -184,7 +184,7 @@ fn copied<T: Duplicate + PartialEq + Drop>(rt: &impl Abort, alloc: Global, value
 }
 
 #[test]
-fn lists_and_copies(rt: HostRuntime) {
+fn copies_of_lists_and_values_are_equal(rt: HostRuntime) {
     let alloc = rt.alloc();
     assert!(rt; list_is_copied(&rt, alloc));
     copied(&rt, alloc, Some(7u8));

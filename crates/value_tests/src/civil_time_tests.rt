@@ -1,7 +1,7 @@
 use civil_time::{LAST_SECOND, civil_at, stamp_at};
 
 #[test]
-fn stamps_of_an_almanac(rt: HostRuntime) {
+fn stamps_and_weekdays_are_those_of_an_almanac(rt: HostRuntime) {
     let table: [(u64, &[u8; 15], u8); 12] = [
         (0, b"19700101_000000", 3),
         (86_399, b"19700101_235959", 3),

@@ -14,7 +14,7 @@ fn is_refused(alloc: Global, kind: StreamKind, text: &[u8], fault: ExprFault) ->
 }
 
 #[test]
-fn refused_texts(rt: HostRuntime) {
+fn texts_are_refused_at_their_first_fault(rt: HostRuntime) {
     let table: [(StreamKind, &[u8], u32, ExprWhy); 20] = [
         (StreamKind::System, b"ab@", 3, ExprWhy::LoneAt),
         (StreamKind::Alarm, b"@Nq", 2, ExprWhy::UnknownToken),
@@ -57,7 +57,7 @@ fn checked(rt: &impl Abort, alloc: Global, length: usize, end: &[u8]) -> Result<
 }
 
 #[test]
-fn long_texts(rt: HostRuntime) {
+fn texts_have_at_most_1024_bytes(rt: HostRuntime) {
     let table: [(usize, &[u8], Option<(u32, ExprWhy)>); 8] = [
         (1024, b"", None),
         (1025, b"", Some((1024, ExprWhy::TooLong))),
@@ -79,7 +79,7 @@ fn long_texts(rt: HostRuntime) {
 }
 
 #[test]
-fn parsed_texts(rt: HostRuntime) {
+fn texts_are_parsed_into_pieces(rt: HostRuntime) {
     let table: [(StreamKind, &[u8], usize); 9] = [
         (StreamKind::System, b"", 0),
         (StreamKind::System, b"plain text", 1),

@@ -36,7 +36,7 @@ fn script(rt: &impl Abort, alloc: Global, turns: u32, seed: u64) -> MemSink {
 }
 
 #[test]
-fn whole_scripts(rt: HostRuntime) {
+fn scripts_of_loads_are_written(rt: HostRuntime) {
     let two = script(&rt, rt.alloc(), 2, 1);
     assert!(rt; two.written() == TWO_TURNS.as_bytes());
     drop(two);

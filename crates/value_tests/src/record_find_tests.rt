@@ -69,7 +69,7 @@ fn check_row(rt: &impl Abort, alloc: Global, text: &[u8], size: u32, bytes: &[u8
 }
 
 #[test]
-fn one_record(rt: HostRuntime) {
+fn a_record_is_found_by_the_text_of_a_token(rt: HostRuntime) {
     let alloc = rt.alloc();
     for row in QUOTED_ROWS.split(';') {
         check_row(&rt, alloc, QUOTED, 32, RECORD, row);
@@ -77,7 +77,7 @@ fn one_record(rt: HostRuntime) {
 }
 
 #[test]
-fn some_records(rt: HostRuntime) {
+fn records_are_numbered_as_they_stand(rt: HostRuntime) {
     let alloc = rt.alloc();
     for row in SHORT_ROWS.split(';') {
         check_row(&rt, alloc, b"@Sv<@Cb>", 8, SHORT, row);
@@ -87,7 +87,7 @@ fn some_records(rt: HostRuntime) {
 }
 
 #[test]
-fn record_lengths(rt: HostRuntime) {
+fn records_have_their_size_or_end_with_their_line(rt: HostRuntime) {
     let rows: [(u32, &[u8], Option<usize>); 6] = [
         (8, SHORT, Some(8)),
         (8, b"IN<a> \n", None),

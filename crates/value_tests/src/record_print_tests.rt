@@ -102,7 +102,7 @@ fn prints_generic(rt: &impl Abort, alloc: Global, time: i64, expr: &[u8], want: 
 }
 
 #[test]
-fn generic_records(rt: HostRuntime) {
+fn generic_records_are_printed(rt: HostRuntime) {
     let table: [(i64, &[u8], &[u8]); 16] = [
         (T, b"@Ch@Ca", b"12am"),
         (T + 12 * HOUR, b"@Ch@Ca", b"12pm"),
@@ -156,7 +156,7 @@ fn generic_records(rt: HostRuntime) {
 }
 
 #[test]
-fn numbers_and_cuts(rt: HostRuntime) {
+fn numbers_are_padded_and_long_bodies_cut(rt: HostRuntime) {
     let table: [(&[u8], u32, &[u8], &[u8]); 8] = [
         (
             b"@Cx @Cb",
@@ -233,7 +233,7 @@ fn prints_freely(rt: &impl Abort, alloc: Global, count: usize, mark: u8, length:
 }
 
 #[test]
-fn records_of_the_sizes_of_their_texts(rt: HostRuntime) {
+fn records_of_size_0_are_as_long_as_their_texts(rt: HostRuntime) {
     for (count, mark, length) in [
         (0, b'C', 3),
         (3, b'C', 6),
@@ -247,7 +247,7 @@ fn records_of_the_sizes_of_their_texts(rt: HostRuntime) {
 }
 
 #[test]
-fn notified_records(rt: HostRuntime) {
+fn notified_records_are_printed(rt: HostRuntime) {
     let names = [b'n'; 256];
     let table: [(&[u8], &[u8], &[u8]); 6] = [
         (b"@No3", &names, b"nnn"),
@@ -308,7 +308,7 @@ fn notified_freely(
 }
 
 #[test]
-fn notified_records_of_the_sizes_of_their_texts(rt: HostRuntime) {
+fn notified_records_of_size_0_are_as_long_as_their_texts(rt: HostRuntime) {
     let table: [(&[u8], &[u8], u32); 5] = [
         (b"@No", b"node1", 6),
         (b"@Ng @No3", b"node1", 7),
@@ -323,7 +323,7 @@ fn notified_records_of_the_sizes_of_their_texts(rt: HostRuntime) {
 }
 
 #[test]
-fn tested_writes(rt: HostRuntime) {
+fn writes_are_checked_by_time_event_type_and_severity(rt: HostRuntime) {
     let table: [(i64, u16, u16, bool); 8] = [
         (0, 0x1001, 0, true),
         (i64::MAX, 0x5005, 6, true),

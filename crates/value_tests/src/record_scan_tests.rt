@@ -222,7 +222,7 @@ fn check_unread(rt: &impl Abort, alloc: Global, size: u32, row: &str) {
 }
 
 #[test]
-fn other_records(rt: HostRuntime) {
+fn records_are_read_or_have_no_texts(rt: HostRuntime) {
     let alloc = rt.alloc();
     for row in READ.split(';') {
         check_read(&rt, alloc, 8, row);
@@ -233,7 +233,7 @@ fn other_records(rt: HostRuntime) {
 }
 
 #[test]
-fn other_lines(rt: HostRuntime) {
+fn lines_are_read_or_have_no_texts(rt: HostRuntime) {
     let alloc = rt.alloc();
     for row in READ_LINES.split(';') {
         check_read(&rt, alloc, 0, row);
@@ -255,7 +255,7 @@ fn check_piece(rt: &impl Abort, alloc: Global, size: u32, row: &str) {
 }
 
 #[test]
-fn pieces_in_the_way(rt: HostRuntime) {
+fn the_first_piece_in_the_way_of_reading_is_told(rt: HostRuntime) {
     let alloc = rt.alloc();
     for row in PIECES.split(';') {
         check_piece(&rt, alloc, 32, row);

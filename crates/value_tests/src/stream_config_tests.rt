@@ -31,7 +31,7 @@ fn passes(kind: StreamKind, attrs: StreamAttrs) -> bool {
 }
 
 #[test]
-fn each_bound_of_names(rt: HostRuntime) {
+fn names_are_accepted_within_their_bounds(rt: HostRuntime) {
     let cases: [(&[u8], &[u8], bool); 10] = [
         (b"saLogSystem", b".", true),
         (b"", b".", false),
@@ -46,12 +46,13 @@ fn each_bound_of_names(rt: HostRuntime) {
     ];
     for (file, path, accepted) in cases {
         let attrs = attrs_of(&rt, rt.alloc(), file, path);
-        assert!(rt; passes(StreamKind::System, attrs) == accepted);
+        let passed = passes(StreamKind::System, attrs);
+        assert!(rt; passed == accepted, "{file:?} {path:?}");
     }
 }
 
 #[test]
-fn each_bound_of_numbers(rt: HostRuntime) {
+fn numbers_are_accepted_within_their_bounds(rt: HostRuntime) {
     // record size, greatest file size, HA, rotated files, accepted
     let cases = [
         (32, 32, 0, 1, true),
@@ -75,7 +76,8 @@ fn each_bound_of_numbers(rt: HostRuntime) {
         attrs.max_file = max_file;
         attrs.ha = ha;
         attrs.rotated = rotated;
-        assert!(rt; passes(StreamKind::System, attrs) == accepted);
+        let passed = passes(StreamKind::System, attrs);
+        assert!(rt; passed == accepted, "{record_size} {max_file} {ha} {rotated}");
     }
 }
 
@@ -92,12 +94,13 @@ fn records_of_varying_size_do_not_wrap(rt: HostRuntime) {
         attrs.max_file = 16_384;
         attrs.record_size = record_size;
         attrs.action = action;
-        assert!(rt; passes(StreamKind::System, attrs) == accepted);
+        let passed = passes(StreamKind::System, attrs);
+        assert!(rt; passed == accepted, "{action:?} {record_size}");
     }
 }
 
 #[test]
-fn expressions_of_each_kind(rt: HostRuntime) {
+fn expressions_are_accepted_by_kind_of_stream(rt: HostRuntime) {
     let alloc = rt.alloc();
     let cases: [(StreamKind, &[u8], bool); 5] = [
         (StreamKind::Alarm, b"@Nt", true),
@@ -109,7 +112,7 @@ fn expressions_of_each_kind(rt: HostRuntime) {
     for (kind, expr, accepted) in cases {
         let mut attrs = attrs_of(&rt, alloc, b"f", b".");
         attrs.expr = Text::new(alloc, expr).expect(&rt, "a text");
-        assert!(rt; passes(kind, attrs) == accepted);
+        assert!(rt; passes(kind, attrs) == accepted, "{kind:?} {expr:?}");
     }
 }
 
@@ -128,7 +131,7 @@ fn cfg_is(
 }
 
 #[test]
-fn cfg_texts(rt: HostRuntime) {
+fn a_cfg_text_tells_all_attributes(rt: HostRuntime) {
     let alloc = rt.alloc();
     let mut attrs = attrs_of(&rt, alloc, b"saLogSystem", b".");
     let system =
@@ -148,7 +151,7 @@ fn cfg_texts(rt: HostRuntime) {
 }
 
 #[test]
-fn well_known_streams(rt: HostRuntime) {
+fn well_known_streams_have_their_own_places(rt: HostRuntime) {
     let alloc = rt.alloc();
     let mut alarm = well_known(alloc, StreamKind::Alarm).expect(&rt, "memory");
     let system = well_known(alloc, StreamKind::System).expect(&rt, "memory");

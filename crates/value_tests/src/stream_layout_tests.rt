@@ -39,7 +39,7 @@ fn place_of(rt: &impl Abort, alloc: Global, action: FullAction, k: u32) -> Spot 
 }
 
 #[test]
-fn places_of_records(rt: HostRuntime) {
+fn records_have_their_places(rt: HostRuntime) {
     for (action, k, file, at) in [
         (FullAction::Wrap, 1, 0, 32),
         (FullAction::Wrap, 4, 0, 0),
@@ -139,7 +139,7 @@ fn goes_on(rt: &impl Abort, alloc: Global, taken: u32, bytes: u64, len: u32, fit
 
 /// Records and bytes of the current file, the length of the next record, and whether it fits.
 #[test]
-fn places_of_records_of_varying_size(rt: HostRuntime) {
+fn records_of_varying_size_go_on_where_they_fit(rt: HostRuntime) {
     for (taken, bytes, len, fits) in [
         (0, 0, 16_384, true),
         (0, 0, 1, true),
@@ -171,7 +171,7 @@ fn is_named(rt: &impl Abort, alloc: Global, path: &[u8], closed: Option<i64>, wa
 }
 
 #[test]
-fn names_of_files(rt: HostRuntime) {
+fn files_are_named_by_their_stamps(rt: HostRuntime) {
     let alloc = rt.alloc();
     let open = b"saLogSystem_20240101_000002.log".as_slice();
     assert!(rt; is_named(&rt, alloc, b".", None, open));
@@ -300,7 +300,7 @@ fn does(rt: &impl Abort, alloc: Global, event: StreamEvent, want: &[u8])
 }
 
 #[test]
-fn deeds_of_streams_that_begin_and_end(rt: HostRuntime) -> Result<(), Fail> {
+fn streams_begin_and_end_by_their_deeds(rt: HostRuntime) -> Result<(), Fail> {
     let alloc = rt.alloc();
     let making = b"put 164 saLogSystem.cfg\ncreate saLogSystem_20240101_000002.log\n".as_slice();
     does(&rt, alloc, made(alloc)?, making);
@@ -311,7 +311,7 @@ fn deeds_of_streams_that_begin_and_end(rt: HostRuntime) -> Result<(), Fail> {
 }
 
 #[test]
-fn deeds_of_records(rt: HostRuntime) -> Result<(), Fail> {
+fn records_are_stored_by_their_deeds(rt: HostRuntime) -> Result<(), Fail> {
     let alloc = rt.alloc();
     let storing = b"write 256 256 saLogSystem_20240101_000002.log\n".as_slice();
     does(&rt, alloc, stored(alloc, 1, None)?, storing);
