@@ -112,10 +112,12 @@ fn texts_are_parsed_into_pieces(rt: HostRuntime) {
     }
 }
 
-fn parsed(rt: &impl Abort, alloc: Global, kind: StreamKind, text: &[u8]) -> Expr {
-    parse_expr(alloc, kind, text)
-        .ok()
-        .expect(rt, "an expression")
+/// An expression of a stream of the kind.
+pub fn parsed(rt: &impl Abort, alloc: Global, kind: StreamKind, text: &[u8]) -> Expr {
+    match parse_expr(alloc, kind, text) {
+        Ok(expr) => expr,
+        Err(answer) => panic!(rt; "{answer:?}"),
+    }
 }
 
 /// Whether the text is an expression of so many pieces, of which a copy prints the text.

@@ -1,5 +1,5 @@
+use crate::format_expr_tests::parsed;
 use ais_values::{Seq, StreamKind};
-use format_expr::{Expr, parse_expr};
 use record_scan::{find_records, record_length, separable};
 use std::alloc::Global;
 use std::process::Abort;
@@ -20,13 +20,6 @@ const LINES: &[u8] = b"IN<a>\nER<IN>\nIN(a)\nIN<a b>\nIN<a>";
 
 const SHORT_ROWS: &str = "1`IN`1,4,;2`IN`2,;2`a b`4,;2`a`1,;1`IN<`";
 
-fn parsed(rt: &impl Abort, alloc: Global, text: &[u8]) -> Expr {
-    match parse_expr(alloc, StreamKind::System, text) {
-        Ok(expr) => expr,
-        Err(answer) => panic!(rt; "{answer:?}"),
-    }
-}
-
 /// The numbers found.
 fn found(
     rt: &impl Abort,
@@ -37,7 +30,7 @@ fn found(
     token: u32,
     wanted: &[u8],
 ) -> Seq<u32> {
-    let expr = parsed(rt, alloc, text);
+    let expr = parsed(rt, alloc, StreamKind::System, text);
     match separable(&expr, size) {
         Ok(()) => {}
         Err(refusal) => panic!(rt; "{refusal:?}"),

@@ -1,5 +1,6 @@
+use crate::format_expr_tests::parsed;
 use ais_values::{ClassId, Name, Seq, StreamKind, Text};
-use format_expr::{Expr, parse_expr};
+use format_expr::Expr;
 use record_print::{Header, LogRecord, is_printable, print_record};
 use record_scan::{is_text, scan_record, separable};
 use std::alloc::Global;
@@ -97,13 +98,6 @@ fn record_of(rt: &impl Abort, alloc: Global, kind: StreamKind) -> LogRecord {
         time: T,
         header,
         body: Text::from_vec(b"a  ".to_vec(alloc).expect(rt, "memory")),
-    }
-}
-
-fn parsed(rt: &impl Abort, alloc: Global, kind: StreamKind, text: &[u8]) -> Expr {
-    match parse_expr(alloc, kind, text) {
-        Ok(expr) => expr,
-        Err(answer) => panic!(rt; "{answer:?}"),
     }
 }
 
