@@ -100,6 +100,7 @@ fn shapes_of(
     Ok(pen.written())
 }
 
+// What stands before the first panel.
 fn head_of(alloc: Global, run: &Run, frame: &Frame) -> Result<Vec<u8>, AllocError> {
     let mut pen = Pen::new(alloc);
     put_head(&mut pen, frame, run)?;

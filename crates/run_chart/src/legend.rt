@@ -87,6 +87,7 @@ fn put_heading(pen: &mut Pen, run: &Run) -> Result<(), AllocError> {
     pen.label("big", At(12, 20), text.as_bytes(), 100)
 }
 
+// Whether an event is an entry of the history.
 fn is_entry(event: Event) -> bool {
     matches!(event, Event::Committed { .. })
 }
@@ -107,6 +108,7 @@ fn put_arrows(pen: &mut Pen) -> Result<(), AllocError> {
     )
 }
 
+// An arrow of this kind, and its name.
 fn put_sample(pen: &mut Pen, kind: Kind, at: At, text: &[u8]) -> Result<(), AllocError> {
     let to_right = kind.is_of_client();
     let point = if to_right { at.right(34) } else { at };
@@ -126,6 +128,7 @@ fn put_roles(pen: &mut Pen) -> Result<(), AllocError> {
     put_swatch(pen, Role::Untold, 742, b"not told by any line yet")
 }
 
+// A piece of a bar in the colour of this role, and its name.
 fn put_swatch(pen: &mut Pen, role: Role, x: u64, text: &[u8]) -> Result<(), AllocError> {
     put_role(pen, role, At(x, 53), 65)?;
     pen.label("plain", At(x, 62).right(22), text, 60)

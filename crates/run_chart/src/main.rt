@@ -55,6 +55,7 @@ fn lines_of<R: BufRead>(alloc: Global, reader: &mut R) -> io::Result<Vec<Vec<u8>
     Ok(lines)
 }
 
+// The lines of the input.
 fn read_lines<R: Input + AllocGlobal>(rt: &R) -> Result<Vec<Vec<u8>>, Ending> {
     let mut reader = match BufReader::new(rt.alloc(), rt.reader()) {
         Ok(reader) => reader,
@@ -66,6 +67,7 @@ fn read_lines<R: Input + AllocGlobal>(rt: &R) -> Result<Vec<Vec<u8>>, Ending> {
     }
 }
 
+// Writes the picture of the lines that are read.
 fn write_picture<R: Input + Print + AllocGlobal>(rt: &R) -> Result<(), Ending> {
     let lines = read_lines(rt)?;
     match draw(rt.alloc(), lines.as_slice()) {

@@ -130,6 +130,7 @@ fn put_bar(
     )
 }
 
+// The role of a server at a row.
 fn role_at(run: &Run, row: usize, server: Server) -> Role {
     match run.rows.get(row) {
         Some(row) => row.roles.of(server),
@@ -190,6 +191,7 @@ fn begin_of(message: Message) -> u64 {
     }
 }
 
+// Where a message comes out of the net: an item higher in its row than the receipt that answers it.
 fn end_of(message: Message, row: usize) -> u64 {
     let y = middle(row);
     match message.name.kind {

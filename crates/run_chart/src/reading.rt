@@ -48,6 +48,7 @@ fn is_shown(line: &[u8]) -> bool {
     line.iter().all(|byte| 32 <= *byte && *byte != 127)
 }
 
+// The kind of message that a word names.
 fn kind_of(word: &[u8]) -> Option<Kind> {
     match word {
         b"req" => Some(Kind::Request),
@@ -79,6 +80,7 @@ fn at_end(words: Words, event: Event) -> Option<Event> {
     if words.is_at_end() { Some(event) } else { None }
 }
 
+// A message that is posted, or bytes that are none.
 fn posted(mut words: Words) -> Option<Event> {
     let number = words.count()?;
     let word = words.word()?;
@@ -96,6 +98,7 @@ fn injected(mut words: Words) -> Option<Event> {
     at_end(words, Event::Injected)
 }
 
+// An entry, by its call or its receipt.
 fn committed(mut words: Words) -> Option<Event> {
     let entry = words.count()?;
     let kind = match words.word()? {
@@ -108,6 +111,7 @@ fn committed(mut words: Words) -> Option<Event> {
     at_end(words, Event::Committed { entry, name, time })
 }
 
+// A reply, or what the agent tells by itself, which has `-` in place of a number.
 fn replied(mut words: Words) -> Option<Event> {
     let client = words.client()?;
     let mut behind = words;
@@ -176,6 +180,7 @@ fn is_sent(mut words: Words) -> bool {
     found && words.is_at_end()
 }
 
+// Whether the next word is `id=N`.
 fn is_id(words: &mut Words) -> bool {
     match words.word() {
         Some(word) => match word.strip_prefix(b"id=") {
@@ -202,6 +207,7 @@ fn is_note(mut words: Words) -> bool {
     }
 }
 
+// A callback: of a write, of a mask, of a notification or of lost ones.
 fn called_back(mut words: Words) -> Option<Event> {
     let client = words.client()?;
     words.count()?;
@@ -258,6 +264,7 @@ fn is_loss(mut words: Words) -> bool {
     }
 }
 
+// Whether these words are `count=N` and `ids=N,..`.
 fn are_losses(count: &[u8], ids: &[u8]) -> bool {
     match (count.strip_prefix(b"count="), ids.strip_prefix(b"ids=")) {
         (Some(count), Some(ids)) => number_of(count).is_some() && are_numbers(ids),
@@ -265,6 +272,7 @@ fn are_losses(count: &[u8], ids: &[u8]) -> bool {
     }
 }
 
+// A file, whose name may have spaces, and its length.
 fn file(rest: &[u8]) -> Option<Event> {
     let (name, length) = last_word(rest)?;
     number_of(length)?;
@@ -274,6 +282,7 @@ fn file(rest: &[u8]) -> Option<Event> {
     Some(Event::File)
 }
 
+// The role that a word names.
 fn role_of(word: &[u8]) -> Option<Role> {
     match word {
         b"active" => Some(Role::Active),
@@ -286,6 +295,7 @@ fn role_of(word: &[u8]) -> Option<Role> {
     }
 }
 
+// The server that a word names.
 fn server_of(word: &[u8]) -> Option<Server> {
     match word {
         b"a" => Some(Server::First),
@@ -295,12 +305,14 @@ fn server_of(word: &[u8]) -> Option<Server> {
     }
 }
 
+// The role of a server.
 fn stands(mut words: Words) -> Option<Event> {
     let server = server_of(words.word()?)?;
     let role = role_of(words.word()?)?;
     at_end(words, Event::Stands { server, role })
 }
 
+// A fault of the disk.
 fn failed(mut words: Words) -> Option<Event> {
     match words.word()? {
         b"fault" => at_end(words, Event::Failed),
@@ -308,6 +320,7 @@ fn failed(mut words: Words) -> Option<Event> {
     }
 }
 
+// A message that had no effect, and why.
 fn ignored(mut words: Words) -> Option<Event> {
     let number = words.count()?;
     match words.word()? {

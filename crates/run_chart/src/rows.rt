@@ -96,6 +96,7 @@ fn put_post(pen: &mut Pen, place: &Place, number: u64, name: Naming) -> Result<(
     }
 }
 
+// The arrow of what a client posts, and its words.
 fn put_client_post(
     pen: &mut Pen,
     frame: &Frame,
@@ -107,6 +108,7 @@ fn put_client_post(
     pen.label("end", from.left(8).down(3), text, CLIENT_LABEL)
 }
 
+// The arrow of what a server posts, and its words.
 fn put_server_post(
     pen: &mut Pen,
     place: &Place,
@@ -172,6 +174,7 @@ fn entry_text(alloc: Global, name: Naming, time: Option<u64>) -> Result<String, 
     Ok(text)
 }
 
+// Adds a moment, by its second since 1970.
 fn put_stamp(text: &mut String, second: u64) -> Result<(), AllocError> {
     let stamp = stamp_at(second.min(LAST_SECOND));
     match str::from_utf8(stamp.as_slice()) {
@@ -192,6 +195,7 @@ fn put_reply(pen: &mut Pen, place: &Place, client: u64, line: &[u8]) -> Result<(
     put_client_label(pen, to, b"reply ", behind(line, 2))
 }
 
+// Words at a client's column.
 fn put_client_label(pen: &mut Pen, at: At, word: &[u8], rest: &[u8]) -> Result<(), AllocError> {
     let mut text = word.to_vec(pen.alloc())?;
     text.extend_from_slice(rest)?;
@@ -205,6 +209,7 @@ fn put_told(pen: &mut Pen, place: &Place, client: u64, line: &[u8]) -> Result<()
     put_client_label(pen, at, b"", behind(line, 3))
 }
 
+// A callback at its client.
 fn put_callback(pen: &mut Pen, place: &Place, client: u64, line: &[u8]) -> Result<(), AllocError> {
     let at = At(place.frame.client(client), place.y);
     put_callback_mark(pen, at)?;
@@ -246,6 +251,7 @@ fn put_ignored(pen: &mut Pen, place: &Place, line: &[u8]) -> Result<(), AllocErr
     pen.label("light end", to.left(8).down(3), text, CLIENT_LABEL)
 }
 
+// A line that is refused, at the history.
 fn put_refused(pen: &mut Pen, place: &Place, line: &[u8]) -> Result<(), AllocError> {
     let at = At(place.frame.history(), place.y);
     put_refusal_mark(pen, at)?;
@@ -279,6 +285,7 @@ fn put_failure(pen: &mut Pen, place: &Place, line: &[u8]) -> Result<(), AllocErr
     pen.label("role", to.right(12).down(3), line, HISTORY_LABEL)
 }
 
+// A file with its length.
 fn put_file(pen: &mut Pen, place: &Place, line: &[u8]) -> Result<(), AllocError> {
     let at = At(place.frame.history(), place.y);
     put_file_mark(pen, at)?;
@@ -290,6 +297,7 @@ fn put_file(pen: &mut Pen, place: &Place, line: &[u8]) -> Result<(), AllocError>
     )
 }
 
+// A line of a file.
 fn put_text(pen: &mut Pen, place: &Place, line: &[u8]) -> Result<(), AllocError> {
     let at = At(place.frame.history(), place.y).right(6);
     pen.stroke("quote", at.up(6), at.down(6))?;

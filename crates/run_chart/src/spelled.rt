@@ -40,6 +40,7 @@ fn is_callback(alloc: Global, text: &[u8]) -> Result<bool, AllocError> {
     }
 }
 
+// Whether what is refused is a line of a script, of two servers or of three as the roles behind it are.
 fn is_refusal(alloc: Global, text: &[u8]) -> Result<bool, AllocError> {
     match refused_line(text) {
         Some((line, third)) if third && is_own_of_three(line) => Ok(true),
