@@ -28,4 +28,4 @@ pub use seq::Seq;
 pub use shared::Shared;
 pub use status::{Status, negotiate};
 pub use text::{MAX_TEXT, Text, TextAnswer};
-pub use times::{UNKNOWN_TIME, is_time};
+pub use times::{LAST_TIME, UNKNOWN_TIME, is_time};

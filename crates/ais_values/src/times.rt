@@ -5,6 +5,9 @@ ghost use Rattle.ais_values.specs.Times.{IsTime};
 /// The time that stands for an unknown one (`SA_TIME_UNKNOWN`).
 pub const UNKNOWN_TIME: i64 = i64::MIN;
 
+/// The last moment at which a call is accepted, in the year 2255.
+pub const LAST_TIME: i64 = 9_000_000_000_000_000_000;
+
 /// Whether a time is not negative, or the unknown one.
 pub fn is_time(time: i64) -> bool
     ensures { IsTrue result ↔ IsTime time }

@@ -10,7 +10,7 @@ ghost use Rattle.log_service.specs.State.{IsCallTime, HasNumberLeft, stream_of_k
 use crate::records::stream_of_kind;
 use crate::state::LogState;
 use crate::streams;
-use ais_values::{Name, Status, StreamKind, Text};
+use ais_values::{LAST_TIME, Name, Status, StreamKind, Text};
 use stream_config::{Mark, StreamName, StreamState};
 
 impl LogState {
@@ -19,7 +19,7 @@ impl LogState {
     pub fn is_call_time(&self, now: i64) -> bool
         ensures { IsTrue result ↔ IsCallTime self.now.table now }
     {
-        self.last <= 19_999_999_000 && now >= 0 && now <= 9_000_000_000_000_000_000
+        self.last <= 19_999_999_000 && now >= 0 && now <= LAST_TIME
     }
 
     /// Whether a number is left for the next record of the stream of this name, if there is one: fewer than

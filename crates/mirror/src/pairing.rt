@@ -22,7 +22,7 @@ ghost use Rattle.mirror.specs.Preparing.{entry_by, held_back, wanted_by};
 use crate::node::Tie;
 use crate::replica::Replica;
 use crate::{Heard, Outcome};
-use ais_values::{Duplicate, Seq};
+use ais_values::{Duplicate, LAST_TIME, Seq};
 use calls::{Boxed, Entry, MAX_ENTRIES, Saved};
 use saved_fit::is_fit;
 use service_core::Service;
@@ -111,7 +111,7 @@ fn can_accept(service: &Service, client: u16, time: i64) -> bool
     1 <= client
         && client <= 4096
         && 0 <= time
-        && time <= 9_000_000_000_000_000_000
+        && time <= LAST_TIME
         && service.number() < MAX_ENTRIES
 }
 

@@ -11,7 +11,7 @@ ghost use Rattle.script_grammar.specs.Reading.{skipped, word, maybe, unless};
 ghost use Rattle.script_grammar.specs.ValueReading.{is_plain, magnitude_at, number_at, in_signed_range, signed_at};
 ghost use Rattle.script_language.specs.ValueReading.{number8_at, number16_at, number32_at, number64_at, signed64_at, script_time_at, client_at, queue_length_at, count_at};
 
-use ais_values::UNKNOWN_TIME;
+use ais_values::{LAST_TIME, UNKNOWN_TIME};
 
 /// The greatest number of a client.
 const MAX_CLIENT: u64 = 4_096;
@@ -21,9 +21,6 @@ const MAX_QUEUE: u64 = 256;
 
 /// The most workers of a dispatch.
 const MAX_WORKERS: u64 = 8;
-
-/// The last moment that a script names, in nanoseconds.
-const LAST_TIME: i64 = 9_000_000_000_000_000_000;
 
 /// What follows the word; none exactly where the bytes do not begin with it. It takes no memory.
 #[tactic(auto, using(script_grammar::proofs::Words::skipped_is))]

@@ -7,7 +7,7 @@ ghost use Rattle.plain_service.specs.Setups.{IsMoment};
 ghost use Rattle.service_rows.specs.Wells.{AreWells};
 
 use crate::files::perform_all;
-use ais_values::{Seq, StreamKind};
+use ais_values::{LAST_TIME, Seq, StreamKind};
 use disk_model::MemDisk;
 use script::{Line, well_attrs};
 use service_core::Service;
@@ -27,7 +27,7 @@ pub(crate) struct Session {
 pub(crate) fn is_moment(time: i64) -> bool
     ensures { IsTrue result → IsMoment time }
 {
-    time >= 0 && time <= 9_000_000_000_000_000_000
+    time >= 0 && time <= LAST_TIME
 }
 
 /// Whether a stream of a kind can have these attributes.
