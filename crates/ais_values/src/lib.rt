@@ -2,6 +2,7 @@
 #![tactic(auto)]
 
 mod boxed;
+mod clients;
 mod codes;
 mod digits;
 mod duplicate;
@@ -17,6 +18,7 @@ mod text;
 mod times;
 
 pub use boxed::Boxed;
+pub use clients::MAX_CLIENT;
 pub use codes::{CodeRow, code_of, name_of};
 pub use digits::hex_digit;
 pub use duplicate::{Duplicate, both};

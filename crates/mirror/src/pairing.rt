@@ -22,7 +22,7 @@ ghost use Rattle.mirror.specs.Preparing.{entry_by, held_back, wanted_by};
 use crate::node::Tie;
 use crate::replica::Replica;
 use crate::{Heard, Outcome};
-use ais_values::{Duplicate, LAST_TIME, Seq};
+use ais_values::{Duplicate, LAST_TIME, MAX_CLIENT, Seq};
 use calls::{Boxed, Entry, MAX_ENTRIES, Saved};
 use saved_fit::is_fit;
 use service_core::Service;
@@ -109,7 +109,7 @@ fn can_accept(service: &Service, client: u16, time: i64) -> bool
     ensures { IsTrue result ↔ CanAcceptIn service.now client time }
 {
     1 <= client
-        && client <= 4096
+        && client <= MAX_CLIENT
         && 0 <= time
         && time <= LAST_TIME
         && service.number() < MAX_ENTRIES

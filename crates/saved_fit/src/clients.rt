@@ -11,13 +11,14 @@ ghost use Rattle.plain_service.specs.Legal.{IsClient};
 ghost use Rattle.plain_service.specs.Fitness.{AreClients, IsAmong, IsFitWindow};
 
 use crate::rising::are_rising;
+use ais_values::MAX_CLIENT;
 use calls::{SavedReader, SavedWindow};
 
 /// Whether a number is that of a client.
 fn is_client(client: u16) -> bool
     ensures { IsTrue result ↔ IsClient client }
 {
-    client >= 1 && client <= 4096
+    client >= 1 && client <= MAX_CLIENT
 }
 
 /// Whether numbers are those of clients.

@@ -4,6 +4,7 @@ ghost use Rattle.service_core.specs.Applying.{CanAcceptIn};
 
 use crate::calling::{alarm_of, join_of, open_of, start_of, subscribe_of};
 use crate::kind::Kind;
+use ais_values::MAX_CLIENT;
 use calls::{Call, Entry, MAX_ENTRIES, Shared};
 use service_core::Service;
 use std::alloc::{AllocError, Global};
@@ -28,7 +29,7 @@ pub(crate) struct Setting {
 fn can_accept(service: &Service, client: u16) -> bool
     ensures { IsTrue result → CanAcceptIn service.now client (pos 1704067300000000000) }
 {
-    client >= 1 && client <= 4096 && service.number() < MAX_ENTRIES
+    client >= 1 && client <= MAX_CLIENT && service.number() < MAX_ENTRIES
 }
 
 /// Applies a client's next call, and tells how many deeds it has.

@@ -6,7 +6,7 @@ use crate::beginning::{Session, is_moment};
 use crate::files::perform_all;
 use crate::printing::{put, put_reply};
 use crate::twins::twin_agrees;
-use ais_values::Duplicate;
+use ais_values::{Duplicate, MAX_CLIENT};
 use calls::{Call, Entry, MAX_ENTRIES, Reply, Shared};
 use client_window::Judged;
 use service_core::{Effect, Service};
@@ -16,7 +16,7 @@ use std::alloc::{AllocError, Global};
 fn can_accept(service: &Service, client: u16, now: i64) -> bool
     ensures { IsTrue result → CanAcceptIn service.now client now }
 {
-    client >= 1 && client <= 4096 && is_moment(now) && service.number() < MAX_ENTRIES
+    client >= 1 && client <= MAX_CLIENT && is_moment(now) && service.number() < MAX_ENTRIES
 }
 
 /// Whether the window of a client judges a call that was answered so, and those behind it.

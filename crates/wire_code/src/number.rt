@@ -4,6 +4,7 @@ ghost use Rattle.wire_code.specs.Spelling.{IsWithin};
 ghost use Rattle.wire_code.specs.Reading.{GivesAlways, first_at, byte_at, within_at, client_at, count_at};
 
 use crate::Fault;
+use ais_values::MAX_CLIENT;
 use byteorder::{BigEndian, ByteOrder};
 
 /// Reads one byte, as the place of a variant is.
@@ -45,7 +46,7 @@ pub fn read_within(bytes: &[u8], low: u16, high: u16) -> Result<(u16, &[u8]), Fa
 pub fn read_client(bytes: &[u8]) -> Result<(u16, &[u8]), Fault>
     ensures { GivesAlways (λ found. (found.0, found.1.now)) result (client_at bytes.now) }
 {
-    read_within(bytes, 1, 4096)
+    read_within(bytes, 1, MAX_CLIENT)
 }
 
 /// Reads a number of four bytes that begins at 1.
