@@ -12,7 +12,7 @@ use crate::step::Step;
 use crate::streams;
 use ais_values::Status;
 use std::alloc::{AllocError, Global};
-use stream_config::{Mark, StreamName};
+use stream_config::{MAX_MASK, Mark, StreamName};
 
 impl LogState {
     /// What decides the setting of a mask: `BadHandle` where the client does not use the service or does not have the
@@ -24,7 +24,7 @@ impl LogState {
         if !self.users.contains(client) || !self.has_open(name, client) {
             return Status::BadHandle;
         }
-        if name.is_notified() || mask > 127 {
+        if name.is_notified() || mask > MAX_MASK {
             return Status::InvalidParam;
         }
         Status::Ok

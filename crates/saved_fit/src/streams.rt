@@ -11,7 +11,7 @@ use crate::clients::{are_among, are_clients};
 use crate::files::{are_stamps, has_fit_files};
 use crate::judging::{Judged, all_fit};
 use calls::{Saved, SavedStream};
-use stream_config::{Mark, StreamName, StreamState, check_attrs, have_one_place};
+use stream_config::{MAX_MASK, Mark, StreamName, StreamState, check_attrs, have_one_place};
 
 /// Whether a stream has that name, if there is one.
 fn is_called(stream: Option<&SavedStream>, name: &StreamName) -> bool
@@ -135,8 +135,9 @@ fn passes(state: &StreamState) -> bool
 fn passes_mark(number: u64, name: &StreamName, mark: Mark) -> bool
     ensures { result ≡ passes_mark number name.now mark }
 {
-    mark.mask <= 127
-        && (mark.since <= number && (!name.is_notified() || (mark.since == 0 && mark.mask == 127)))
+    mark.mask <= MAX_MASK
+        && (mark.since <= number
+            && (!name.is_notified() || (mark.since == 0 && mark.mask == MAX_MASK)))
 }
 
 /// Whether the mark of the stream of this name is fit, once so many entries were accepted.

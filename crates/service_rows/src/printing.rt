@@ -2,7 +2,7 @@
 use ais_values::Status;
 use calls::{Held, Reply};
 use std::alloc::{AllocError, Global};
-use stream_config::Mark;
+use stream_config::{MAX_MASK, Mark};
 use sub_queue::{Content, Lost};
 
 /// Adds bytes.
@@ -23,7 +23,7 @@ fn ok_words(alloc: Global, filtered: bool, mark: Mark) -> Result<String, AllocEr
     let since = mark.since;
     let mask = mark.mask;
     let ok = if filtered { "ok filtered" } else { "ok" };
-    if since == 0 && mask == 127 {
+    if since == 0 && mask == MAX_MASK {
         return String::from_str(alloc, ok);
     }
     format!(in alloc; "{ok} since={since} mask={mask}")

@@ -18,7 +18,7 @@ pub use check::{check_attrs, have_one_place};
 pub use defaults::{default_format, well_known};
 pub use event::{Stamps, StreamEvent};
 pub use law::{law_of_equality, law_of_sizes, law_of_tests};
-pub use mark::{Mark, lets_pass};
+pub use mark::{MAX_MASK, Mark, lets_pass};
 pub use room::{changes_file, current_of, first_standing, has_room, next_offset};
 pub use sizes::{NANOSECONDS_PER_SECOND, per_file, stamp};
 pub use state::{LogFile, StreamState};

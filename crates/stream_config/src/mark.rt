@@ -5,13 +5,16 @@ ghost use Rattle.stream_config.specs.Marks.{first_mark, made_mark, lets_pass};
 use ais_values::Duplicate;
 use std::alloc::{AllocError, Global};
 
+/// The greatest mask: all severities pass.
+pub const MAX_MASK: u32 = 127;
+
 /// The mask of a stream, and where it was set.
 #[derive(Clone, Copy, PartialEq, Eq, Debug)]
 pub struct Mark {
     /// The number of the entry that made the stream or last set its mask; 0 for a well-known stream that was
     /// never set.
     pub since: u64,
-    /// Bit `2^s` lets records of severity s pass. The greatest mask is 127.
+    /// Bit `2^s` lets records of severity s pass, up to `MAX_MASK`.
     pub mask: u32,
 }
 
@@ -29,7 +32,7 @@ impl Mark {
     {
         Mark {
             since: number,
-            mask: 127,
+            mask: MAX_MASK,
         }
     }
 }
