@@ -61,9 +61,9 @@ fn is_fetched_request(fetched: Fetched) -> bool
 {
     match fetched {
         Fetched::Whole { message } => {
-            let is = is_request(&message);
+            let is_asking = is_request(&message);
             let_message_go(Some(message));
-            is
+            is_asking
         }
         Fetched::Bad { .. } => false,
     }
