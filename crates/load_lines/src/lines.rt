@@ -48,7 +48,7 @@ pub fn first_lines(alloc: Global) -> Result<Seq<Line>, AllocError>
         ask: Ask::Start {
             service: Which::Log,
             version: Version {
-                release: 65,
+                release: b'A',
                 major: 2,
                 minor: 1,
             },
@@ -68,7 +68,7 @@ pub fn first_lines(alloc: Global) -> Result<Seq<Line>, AllocError>
         ask: Ask::Start {
             service: Which::Ntf,
             version: Version {
-                release: 65,
+                release: b'A',
                 major: 1,
                 minor: 1,
             },
