@@ -18,7 +18,9 @@ fn reply_front(client: u16, seq: u32) -> [u8; 7]
 {
     let client = client.to_be_bytes();
     let seq = seq.to_be_bytes();
-    [REPLY_TAG, client[0], client[1], seq[0], seq[1], seq[2], seq[3]]
+    [
+        REPLY_TAG, client[0], client[1], seq[0], seq[1], seq[2], seq[3],
+    ]
 }
 
 /// The message of these bytes, where they begin so and one spells them. A string of more than 4,294,967,294 bytes counts as want of

@@ -11,13 +11,12 @@ use ais_values::Seq;
 use cluster_clients::EventAnswer;
 use disk_model::DiskAnswer;
 use mirror::{Node, Role, let_heard_go, let_node_go};
+pub use script::wells_of;
 use service_core::Service;
 use std::alloc::{AllocError, Global};
 use std::mem;
 use stream_config::StreamAttrs;
 use stream_layout::Deed;
-
-pub use script::wells_of;
 
 /// The active server at the start, tied to each standby, and the deeds of the start. What it would send these is left out, since they
 /// begin with the same. `Err` comes only for want of memory.

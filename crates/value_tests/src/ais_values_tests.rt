@@ -152,7 +152,10 @@ fn names_and_texts_have_bounds(rt: HostRuntime) {
         (3, 126, true),
         (3, 127, false),
     ] {
-        assert!(rt; is_name(&rt, alloc, length, byte) == accepted, "{length} times {byte}");
+        assert!(rt;
+            is_name(&rt, alloc, length, byte) == accepted,
+            "{length} times {byte}"
+        );
     }
     for (length, accepted) in [(0, true), (16_384, true), (16_385, false)] {
         assert!(rt; is_text(&rt, alloc, length) == accepted, "{length}");

@@ -77,7 +77,10 @@ fn numbers_are_accepted_within_their_bounds(rt: HostRuntime) {
         attrs.ha = ha;
         attrs.rotated = rotated;
         let passed = passes(StreamKind::System, attrs);
-        assert!(rt; passed == accepted, "{record_size} {max_file} {ha} {rotated}");
+        assert!(rt;
+            passed == accepted,
+            "{record_size} {max_file} {ha} {rotated}"
+        );
     }
 }
 
