@@ -49,10 +49,10 @@ received_items through first count next held lost items front from counts is res
     joined (through + 1) next front (drop count held) (discarded lost) kept_front (goes_on ∙ ap (λ n. through + 1 + n) long) ∙ ap (λ k. numbered (through + 1) (drop k held ++ discarded lost)) counts
 
 -- items that are kept with their numbers are what their contents say
-pub kept : (capacity first : ℕ) (held : List Content) (lost : List Lost) (items : List Item) (room : ℕ) → IsSound (queue_of_parts capacity first held lost) → items ≡ numbered first held → capacity ≤ room → IsKeptAs (queue_of_parts capacity first (contents_of items) lost) items room
-kept capacity first held lost items room sound numbers fits =
+pub kept : (capacity first : ℕ) (held : List Content) (lost : List Lost) (items : List Item) → IsSound (queue_of_parts capacity first held lost) → items ≡ numbered first held → IsKeptAs (queue_of_parts capacity first (contents_of items) lost) items
+kept capacity first held lost items sound numbers =
     let same : contents_of items ≡ held = ap contents_of numbers ∙ contents_of-numbered first held in
-    rw same (record { sound = sound; numbers = numbers; room = fits })
+    rw same (record { sound = sound; numbers = numbers })
 
 -- one item more keeps a queue sound
 pub IsSound-more : (queue : Queue) (content : Content) → IsSound queue → HasNumberLeft queue → length queue.held < queue.capacity → IsSound (queue_of_parts queue.capacity queue.first (queue.held ++ content ∷ []) queue.lost)

@@ -1,6 +1,5 @@
 //! The queue of one subscription.
-ghost use Rattle.std.specs.Prelude.{◌≡◌, ◌+◌, ◌<◌, ◌≤◌, ◌↔◌, false, [], ◌++◌, drop, length, IsTrue, IsOk, IfOk, OnOk, OnErr, vec_len};
-ghost use Rattle.std.specs.Vec.{vec_capacity};
+ghost use Rattle.std.specs.Prelude.{◌≡◌, ◌+◌, ◌<◌, ◌≤◌, ◌↔◌, false, [], ◌++◌, drop, length, IsTrue, IsOk, IfOk, OnOk, OnErr};
 ghost use Rattle.std.specs.VecDeque.{deque_len, deque_capacity};
 ghost use Rattle.sub_queue.specs.Items.{mark_of, numbered, discarded};
 ghost use Rattle.ntf_types.specs.declared.notification.Notification.{Notification};
@@ -93,19 +92,13 @@ fn add_discarded(items: &mut VecDeque<Item>, number: u32, lost: Seq<Lost>)
     }
 }
 
-/// The contents as items, numbered from `first` on, in a vector with room for `capacity` of them.
-fn numbered_items(
-    alloc: Global,
-    capacity: u32,
-    first: u32,
-    held: Seq<Content>,
-) -> Result<Vec<Item>, AllocError>
-    requires places { length held ≤ capacity }
-    requires numbers { first + length held ≤ 4294967295 }
-    ensures items { IfOk result (λ items. items.items ≡ numbered first held) }
-    ensures room { IfOk result (λ items. capacity ≤ vec_capacity items) }
+/// The contents as items, numbered from `first` on.
+fn numbered_items(alloc: Global, first: u32, held: Seq<Content>) -> Result<Vec<Item>, AllocError>
+    requires { first + length held ≤ 4294967295 }
+    ensures { IfOk result (λ items. items.items ≡ numbered first held) }
 {
-    let mut items = Vec::with_capacity(alloc, capacity as usize)?;
+    let count = held.as_slice().len();
+    let mut items = Vec::with_capacity(alloc, count)?;
     let mut number = first;
     for content in held.into_vec() {
         items.push_reserved(Item { number, content });
@@ -115,21 +108,22 @@ fn numbered_items(
 }
 
 impl SubQueue {
-    /// The queue of a new subscription, of this capacity. It takes the memory of all its items.
+    /// The queue of a new subscription, of this capacity. It takes no memory, so there is never an error.
     pub fn new(alloc: Global, cap: u32) -> Result<SubQueue, AllocError>
         requires { IsCapacity cap }
-        ensures { IfOk result (λ made. made.queue ≡ empty_queue cap) }
+        ensures queue { IfOk result (λ made. made.queue ≡ empty_queue cap) }
+        ensures ok { IsOk result }
     {
         Ok(SubQueue {
             alloc,
             capacity: cap,
             first: 1,
-            items: VecDeque::with_capacity(alloc, cap as usize)?,
+            items: VecDeque::new(alloc),
             lost: Vec::new(alloc),
         })
     }
 
-    /// The queue with these parts, its items numbered from `first`. It takes the memory of all its items.
+    /// The queue with these parts, its items numbered from `first`. It takes the memory of these items.
     pub fn rebuild(
         alloc: Global,
         cap: u32,
@@ -140,7 +134,7 @@ impl SubQueue {
         requires { IsSound (queue_of_parts cap first held lost) }
         ensures { IfOk result (λ made. made.queue ≡ queue_of_parts cap first held lost) }
     {
-        let items = numbered_items(alloc, cap, first, held)?;
+        let items = numbered_items(alloc, first, held)?;
         Ok(SubQueue {
             alloc,
             capacity: cap,
@@ -150,12 +144,12 @@ impl SubQueue {
         })
     }
 
-    /// Offers a notification that matches. It becomes the next item where a place is free, which takes
-    /// no memory; otherwise its type and id join those lost. On an error nothing changes.
+    /// Offers a notification that matches. It becomes the next item where a place is free; otherwise its type and id join those
+    /// lost. It takes memory only where no room was made for it. On an error nothing changes.
     pub fn offer(&mut self, notification: Shared<Notification>) -> Result<(), AllocError>
         requires { HasNumberLeft self.old.queue }
         ensures ok { OnOk result (self.new.queue ≡ offered notification self.old.queue) }
-        ensures room { IsTrue (has_room self.old.queue) → IsOk result }
+        ensures room { 1 ≤ self.old.spare → IsOk result }
         ensures err { OnErr result (self.new.queue ≡ self.old.queue) }
     {
         match self.reserve(self.alloc) {
@@ -170,18 +164,18 @@ impl SubQueue {
         }
     }
 
-    /// Makes room for one notification more. The queue stays as it is; an error is want of memory. It takes memory
-    /// only where all places are taken, and so are those for the marks of what was lost.
+    /// Makes room for one notification more: for an item where a place is free, otherwise for the mark of one that is lost. The
+    /// queue stays as it is; an error is want of memory. It takes memory only where there was no room.
     pub fn reserve(&mut self, _alloc: Global) -> Result<(), AllocError>
         ensures queue { self.new.queue ≡ self.old.queue }
         ensures ok { OnOk result (1 ≤ self.new.spare) }
-        ensures free { IsTrue (has_room self.old.queue) → IsOk result }
+        ensures free { 1 ≤ self.old.spare → IsOk result }
     {
         if self.items.len() < self.capacity as usize {
-            return Ok(());
+            self.items.reserve(1)
+        } else {
+            self.lost.reserve(1)
         }
-        self.lost.reserve(1)?;
-        Ok(())
     }
 
     /// Offers a notification that matches, as `offer` does, into room that was made for it. It takes no memory.

@@ -1,5 +1,4 @@
 use Rattle.std.proofs.Common.{◌≡◌, ◌+◌, ◌-◌, ◌≤◌, List, [], ◌++◌, length, ap, subst, sym, ◌∙◌, arith, Vec, Global}
-use Rattle.std.specs.VecDeque.{deque_capacity}
 use Rattle.sub_queue.specs.declared.item.Lost.{Lost}
 use Rattle.sub_queue.specs.Items.{numbered, discarded}
 use Rattle.sub_queue.specs.Queue.{KeptQueue, queue_of_parts, received, IsNew, HasNumberLeft}
@@ -36,9 +35,8 @@ invariant_of-self c =
     let P : KeptQueue → Type 0 = λ kept. HasNumberLeft kept.queue in
     let left : HasNumberLeft queue = subst P (sym c.self.view_is) c.requires.numbers in
     let sound = IsSound-received c.args.through queue c.self.invariant.sound (new c) left in
-    let room : queue.capacity ≤ deque_capacity items = omega (arith, c.self.invariant.room, c.remove_front.ensures.capacity, c.add_discarded.ensures.capacity) in
-    let Kept : List Lost → Type 0 = λ lost. IsKeptAs (queue_of_parts queue.capacity (c.args.through + 1) (contents_of items.items) lost) items.items (deque_capacity items) in
-    subst Kept (sym (none_lost c)) (kept queue.capacity (c.args.through + 1) (received c.args.through queue).held [] items.items (deque_capacity items) sound (items_are c) room)
+    let Kept : List Lost → Type 0 = λ lost. IsKeptAs (queue_of_parts queue.capacity (c.args.through + 1) (contents_of items.items) lost) items.items in
+    subst Kept (sym (none_lost c)) (kept queue.capacity (c.args.through + 1) (received c.args.through queue).held [] items.items sound (items_are c))
 
 pub returns : goal.returns
 returns c =

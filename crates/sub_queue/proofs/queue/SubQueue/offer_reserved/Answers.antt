@@ -17,4 +17,4 @@ invariant_of-self c =
     let left : HasNumberLeft queue = subst P (sym c.self.view_is) c.requires.numbers in
     let number : c.self.inside.first + c.len-count.result ≡ queue.first + length queue.held = omega (arith, items.ok.0) in
     let is : c.push_back_reserved.new.self.items ≡ numbered queue.first (queue.held ++ content ∷ []) = c.push_back_reserved.ensures.items ∙ joined queue.first _ items.items queue.held (content ∷ []) c.self.invariant.numbers number in
-    kept queue.capacity queue.first (queue.held ++ content ∷ []) queue.lost _ _ (IsSound-more queue content c.self.invariant.sound left place) is (omega (arith, c.self.invariant.room, c.push_back_reserved.ensures.capacity))
+    kept queue.capacity queue.first (queue.held ++ content ∷ []) queue.lost _ (IsSound-more queue content c.self.invariant.sound left place) is
