@@ -88,12 +88,23 @@ fn next_piece(alloc: Global, bytes: &[u8]) -> Result<(Piece, usize), AllocError>
     Ok((Piece::Plain { text }, length))
 }
 
+/// No fewer than the pieces of an expression, in which each `@` begins a field.
+fn most_pieces(text: &[u8]) -> usize {
+    let mut most: usize = 1;
+    for byte in text {
+        if *byte == b'@' {
+            most = most.saturating_add(2);
+        }
+    }
+    most
+}
+
 /// The pieces of a text.
 fn read_pieces(alloc: Global, text: &[u8]) -> Result<Vec<Piece>, AllocError>
     requires { length text.now ≤ MAX_EXPR }
     ensures { IfOk result (λ pieces. pieces.items ≡ pieces_of text.now) }
 {
-    let mut pieces = Vec::new(alloc);
+    let mut pieces = Vec::with_capacity(alloc, most_pieces(text))?;
     let mut rest = text;
     while !rest.is_empty() {
         let (piece, length) = next_piece(alloc, rest)?;

@@ -10,7 +10,7 @@ ghost use Rattle.service_core.specs.Restoring.{states_in, openers_in, marks_in, 
 
 use crate::kept::Kept;
 use crate::parts::Parts;
-use crate::saving::copied;
+use crate::saving::{copied, room_for};
 use ais_values::{Duplicate, Seq, both};
 use alarm_view::{AlarmView, KeptAlarm};
 use calls::{Saved, SavedAlarm, SavedStream, SavedSub, SavedWindow};
@@ -26,7 +26,7 @@ use sub_queue::SubQueue;
 fn states_of(alloc: Global, streams: &[SavedStream]) -> Result<Seq<StreamState>, AllocError>
     ensures { IfOk result (λ states. states ≡ states_in streams.now) }
 {
-    let mut states = Seq::new(alloc);
+    let mut states = room_for(alloc, streams.len())?;
     for stream in streams {
         states.push(stream.state.copy(alloc)?)?;
     }
@@ -37,7 +37,7 @@ fn states_of(alloc: Global, streams: &[SavedStream]) -> Result<Seq<StreamState>,
 fn openers_of(alloc: Global, streams: &[SavedStream]) -> Result<Seq<Seq<u16>>, AllocError>
     ensures { IfOk result (λ openers. openers ≡ openers_in streams.now) }
 {
-    let mut openers = Seq::new(alloc);
+    let mut openers = room_for(alloc, streams.len())?;
     for stream in streams {
         openers.push(stream.openers.copy(alloc)?)?;
     }
@@ -48,7 +48,7 @@ fn openers_of(alloc: Global, streams: &[SavedStream]) -> Result<Seq<Seq<u16>>, A
 fn marks_of(alloc: Global, streams: &[SavedStream]) -> Result<Seq<Mark>, AllocError>
     ensures { IfOk result (λ marks. marks ≡ marks_in streams.now) }
 {
-    let mut marks = Seq::new(alloc);
+    let mut marks = room_for(alloc, streams.len())?;
     for stream in streams {
         marks.push(stream.mark)?;
     }

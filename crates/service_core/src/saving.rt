@@ -1,4 +1,4 @@
-//! The value of a service, part by part.
+//! The value of a service, part by part, each list in just the room that it takes.
 ghost use Rattle.std.specs.Prelude.{◌≡◌, ◌++◌, ◌∷◌, [], map, reverse, slice_get, IfOk, OnOk};
 ghost use Rattle.std.specs.Option.{option_copied, option_map, option_to_list};
 ghost use Rattle.plain_service.specs.Values.{saved_stream, saved_alarm};
@@ -18,11 +18,19 @@ use service_table::ClientWindow;
 use std::alloc::{AllocError, Global};
 use sub_queue::{Content, Item, SubQueue};
 
+/// A list without values that has room for so many.
+pub(crate) fn room_for<T: Drop>(alloc: Global, count: usize) -> Result<Seq<T>, AllocError>
+    ensures { IfOk result (λ room. room ≡ []) }
+{
+    let room = Vec::with_capacity(alloc, count)?;
+    Ok(Seq::from_vec(room))
+}
+
 /// Copies of values, in order.
 pub(crate) fn copied<T: Duplicate + Drop>(alloc: Global, items: &[T]) -> Result<Seq<T>, AllocError>
     ensures { IfOk result (λ copies. copies ≡ items.now) }
 {
-    let mut copies = Seq::new(alloc);
+    let mut copies = room_for(alloc, items.len())?;
     for item in items {
         copies.push(item.copy(alloc)?)?;
     }
@@ -51,7 +59,7 @@ fn push_copy<T: Duplicate + Drop>(
 fn replies_of(alloc: Global, window: &Window<Reply>) -> Result<Seq<Reply>, AllocError>
     ensures { IfOk result (λ replies. replies ≡ reverse window.now.replies) }
 {
-    let mut replies = Seq::new(alloc);
+    let mut replies = room_for(alloc, window.count() as usize)?;
     for place in 0..window.count() {
         push_copy(alloc, &mut replies, window.reply_at(place))?;
     }
@@ -62,7 +70,7 @@ fn replies_of(alloc: Global, window: &Window<Reply>) -> Result<Seq<Reply>, Alloc
 fn windows_of(alloc: Global, callers: &[ClientWindow]) -> Result<Seq<SavedWindow>, AllocError>
     ensures { IfOk result (λ windows. windows ≡ map saved_window callers.now) }
 {
-    let mut windows = Seq::new(alloc);
+    let mut windows = room_for(alloc, callers.len())?;
     for caller in callers {
         let replies = replies_of(alloc, &caller.window)?;
         windows.push(SavedWindow {
@@ -107,7 +115,7 @@ fn push_stream(
 fn streams_of(alloc: Global, log: &LogState) -> Result<Seq<SavedStream>, AllocError>
     ensures { IfOk result (λ streams. streams ≡ map saved_stream log.now.table.streams) }
 {
-    let mut streams = Seq::new(alloc);
+    let mut streams = room_for(alloc, log.count() as usize)?;
     for place in 0..log.count() {
         push_stream(alloc, &mut streams, log, place)?;
     }
@@ -134,19 +142,11 @@ fn push_alarm(
     }
 }
 
-/// A list without alarms that has room for so many.
-fn room_for(alloc: Global, count: u32) -> Result<Seq<SavedAlarm>, AllocError>
-    ensures { IfOk result (λ saved. saved ≡ []) }
-{
-    let room = Vec::with_capacity(alloc, count as usize)?;
-    Ok(Seq::from_vec(room))
-}
-
-/// The stored alarms, in just the room that they take.
+/// The stored alarms.
 fn alarms_of(alloc: Global, alarms: &AlarmView) -> Result<Seq<SavedAlarm>, AllocError>
     ensures { IfOk result (λ saved. saved ≡ map saved_alarm alarms.now.kept) }
 {
-    let mut saved = room_for(alloc, alarms.count())?;
+    let mut saved = room_for(alloc, alarms.count() as usize)?;
     for place in 0..alarms.count() {
         push_alarm(alloc, &mut saved, alarms, place)?;
     }
@@ -172,7 +172,7 @@ fn contents_of(alloc: Global, queue: &SubQueue) -> Result<Seq<Content>, AllocErr
     ensures { IfOk result (λ contents. contents ≡ queue.now.queue.held) }
 {
     let (front, behind) = queue.items();
-    let mut contents = Seq::new(alloc);
+    let mut contents = room_for(alloc, queue.len())?;
     add_contents(alloc, &mut contents, front)?;
     add_contents(alloc, &mut contents, behind)?;
     Ok(contents)
@@ -220,7 +220,7 @@ fn push_sub_at(
 fn subs_of(alloc: Global, ntf: &NtfState) -> Result<Seq<SavedSub>, AllocError>
     ensures { IfOk result (λ subs. subs ≡ map saved_queue ntf.now.table.subs) }
 {
-    let mut subs = Seq::new(alloc);
+    let mut subs = room_for(alloc, ntf.count() as usize)?;
     for place in 0..ntf.count() {
         push_sub_at(alloc, &mut subs, ntf, place)?;
     }
