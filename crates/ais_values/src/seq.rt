@@ -74,7 +74,7 @@ impl<T: Duplicate + Drop> Duplicate for Seq<T> {
     fn copy(&self, alloc: Global) -> Result<Self, AllocError> {
         let mut items = Vec::with_capacity(alloc, self.items.len())?;
         for item in self.items.as_slice() {
-            items.push(item.copy(alloc)?)?;
+            items.push_reserved(item.copy(alloc)?);
         }
         Ok(Seq { items })
     }

@@ -1,5 +1,5 @@
 //! The window of one client's calls.
-ghost use Rattle.std.specs.Prelude.{◌≡◌, ◌+◌, ◌<◌, ◌≤◌, suc, min, List, [], ◌∷◌, length, take, reverse, slice_get, IfOk};
+ghost use Rattle.std.specs.Prelude.{◌≡◌, ◌+◌, ◌<◌, ◌≤◌, suc, min, List, [], ◌∷◌, ◌++◌, length, take, reverse, slice_get, IfOk};
 ghost use Rattle.std.specs.Option.{option_copied};
 ghost use Rattle.std.specs.VecDeque.{deque_capacity};
 ghost use Rattle.client_window.specs.Windows.{window_of, window_of_parts, HasRepliesBefore, places_for, more_places};
@@ -141,6 +141,13 @@ impl<R: Drop> Window<R> {
         ensures { result ≡ length self.now.replies }
     {
         self.replies.len() as u32
+    }
+
+    /// The replies that are kept, the newest first: those in front, and those behind them.
+    pub fn replies(&self) -> (&[R], &[R])
+        ensures { result.0.now ++ result.1.now ≡ self.now.replies }
+    {
+        self.replies.as_slices()
     }
 
     /// The reply at this place among those that are kept, the oldest at place 0.

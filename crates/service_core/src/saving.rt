@@ -1,6 +1,7 @@
 //! The value of a service, part by part, each list in just the room that it takes.
-ghost use Rattle.std.specs.Prelude.{◌≡◌, ◌++◌, ◌∷◌, [], map, reverse, slice_get, IfOk, OnOk};
-ghost use Rattle.std.specs.Option.{option_copied, option_map, option_to_list};
+ghost use Rattle.std.specs.Prelude.{◌≡◌, ◌+◌, ◌≤◌, ◌++◌, ◌∷◌, [], length, map, reverse, slice_get, IfOk, OnOk, vec_len};
+ghost use Rattle.std.specs.Vec.{vec_capacity};
+ghost use Rattle.std.specs.Option.{option_map, option_to_list};
 ghost use Rattle.plain_service.specs.Values.{saved_stream, saved_alarm};
 ghost use Rattle.service_table.specs.Tables.{saved_window, saved_queue, saved_table};
 ghost use Rattle.ntf_service.specs.Told.{told};
@@ -26,44 +27,41 @@ pub(crate) fn room_for<T: Drop>(alloc: Global, count: usize) -> Result<Seq<T>, A
     Ok(Seq::from_vec(room))
 }
 
+/// Adds copies of values, in order, into room for them.
+fn add_copies<T: Duplicate + Drop>(
+    alloc: Global,
+    copies: &mut Vec<T>,
+    items: &[T],
+) -> Result<(), AllocError>
+    requires { vec_len copies.old + length items.now ≤ vec_capacity copies.old }
+    ensures items { OnOk result (copies.new.items ≡ copies.old.items ++ items.now) }
+    ensures capacity { OnOk result (vec_capacity copies.new ≡ vec_capacity copies.old) }
+{
+    for item in items {
+        copies.push_reserved(item.copy(alloc)?);
+    }
+    Ok(())
+}
+
 /// Copies of values, in order.
 pub(crate) fn copied<T: Duplicate + Drop>(alloc: Global, items: &[T]) -> Result<Seq<T>, AllocError>
     ensures { IfOk result (λ copies. copies ≡ items.now) }
 {
-    let mut copies = room_for(alloc, items.len())?;
-    for item in items {
-        copies.push(item.copy(alloc)?)?;
-    }
-    Ok(copies)
-}
-
-/// Adds a copy of a value that is there.
-fn push_copy<T: Duplicate + Drop>(
-    alloc: Global,
-    copies: &mut Seq<T>,
-    found: Option<&T>,
-) -> Result<(), AllocError>
-    ensures { OnOk result
-        (copies.new ≡ copies.old ++ option_to_list (option_copied found.entry)) }
-{
-    match found {
-        None => Ok(()),
-        Some(item) => {
-            copies.push(item.copy(alloc)?)?;
-            Ok(())
-        }
-    }
+    let mut copies = Vec::with_capacity(alloc, items.len())?;
+    add_copies(alloc, &mut copies, items)?;
+    Ok(Seq::from_vec(copies))
 }
 
 /// The replies that a window keeps, the oldest first.
 fn replies_of(alloc: Global, window: &Window<Reply>) -> Result<Seq<Reply>, AllocError>
     ensures { IfOk result (λ replies. replies ≡ reverse window.now.replies) }
 {
-    let mut replies = room_for(alloc, window.count() as usize)?;
-    for place in 0..window.count() {
-        push_copy(alloc, &mut replies, window.reply_at(place))?;
-    }
-    Ok(replies)
+    let (newer, older) = window.replies();
+    let mut replies = Vec::with_capacity(alloc, window.count() as usize)?;
+    add_copies(alloc, &mut replies, newer)?;
+    add_copies(alloc, &mut replies, older)?;
+    replies.reverse();
+    Ok(Seq::from_vec(replies))
 }
 
 /// The windows of all clients.

@@ -12,7 +12,7 @@ returns c =
     let front = c.items.result.0.now in
     let behind = c.items.result.1.now in
     c.in_ok-add_contents-2.ensures
-    ∙ ap (λ (all : List Content). all ++ contents_in behind) (c.in_ok-add_contents.ensures ∙ ap (λ (all : List Content). all ++ contents_in front) c.new-contents.ensures)
+    ∙ ap (λ (all : List Content). all ++ contents_in behind) (c.in_ok-add_contents.ensures ∙ ap (λ (all : List Content). all ++ contents_in front) c.in_ok-contents.ensures)
     ∙ sym (map-append (λ (item : Item). item.content) front behind)
     ∙ ap contents_in c.items.ensures.items
     ∙ contents-numbered queue.first queue.held
