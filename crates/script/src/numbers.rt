@@ -27,7 +27,11 @@ const MAX_WORKERS: u64 = 8;
 pub fn skip<'a>(bytes: &'a [u8], word: &[u8]) -> Option<&'a [u8]>
     ensures { skipped word.now bytes.now ≡ option_map (λ rest. rest.now) result }
 {
-    bytes.strip_prefix(word)
+    // Most words that are tried differ in their first letter, which is seen sooner than a whole word is compared.
+    match (bytes, word) {
+        ([byte, ..], [letter, ..]) if *byte != *letter => None,
+        _ => bytes.strip_prefix(word),
+    }
 }
 
 /// What follows the two words, where the bytes begin with them.
