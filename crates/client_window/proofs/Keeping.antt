@@ -1,9 +1,23 @@
 -- What a window keeps of all replies, one reply after another, and how the numbers of calls lead to them.
-use Rattle.std.proofs.Common.{◌≡◌, ℕ, suc, ◌+◌, ◌-◌, ◌<◌, ◌≤◌, ◌==◌, min, List, [], ◌∷◌, ◌++◌, length, take, replicate, Some, get_or, sym, ◌∙◌, ap, inl, inr, arith, length-take, length-append}
-use Rattle.std.proofs.lemmas.List.{take-take, length-replicate, take-append-le, take_all, append-nil, get_or-take}
+use Rattle.std.proofs.Common.{◌≡◌, ℕ, suc, ◌+◌, ◌-◌, ◌<◌, ◌≤◌, ◌==◌, min, List, [], ◌∷◌, ◌++◌, length, take, drop, reverse, replicate, Some, get_or, sym, ◌∙◌, ap, inl, inr, arith, length-take, length-append}
+use Rattle.std.proofs.lemmas.List.{take-take, length-replicate, take-append-le, take_all, append-nil, get_or-take, length-reverse}
+use Rattle.std.proofs.lemmas.Grind.{reverse_onto}
 use Rattle.std.proofs.lemmas.Bool.{cases_eq, cases_lt, cond-true, cond-false, eq-eqb, ne_eqb}
 use Rattle.client_window.specs.Windows.{Kept, window_of, HasRepliesBefore}
 use Rattle.client_window.specs.Judgement.{taken_under, forgotten}
+
+-- where 32 are kept, all but the oldest are the last 31
+pub newest : {R : Type 0} (kept : List R) → length kept ≡ 32 → reverse (drop 1 kept) ≡ take 31 (reverse kept)
+newest [] full = absurd (omega arith)
+newest (oldest ∷ others) full =
+    let count = length-reverse others in
+    sym (ap (take 31) (reverse_onto others oldest []) ∙ take-append-le 31 (reverse others) (oldest ∷ []) (omega arith) ∙ take_all 31 (reverse others) (omega arith))
+
+-- where fewer are kept, all of them are
+pub all_kept : {R : Type 0} (kept : List R) → length kept < 32 → reverse kept ≡ take 31 (reverse kept)
+all_kept kept fewer =
+    let count = length-reverse kept in
+    sym (take_all 31 (reverse kept) (omega arith))
 
 -- what is kept, and the next reply, make what is kept then
 pub window_of-more : {R : Type 0} (reply : R) (all : List R) (next : ℕ) (kept now : List R) → ◌≡◌ {A = Kept R} (record { next = next; replies = kept }) (window_of all) → now ≡ take 32 (reply ∷ kept) → ◌≡◌ {A = Kept R} (record { next = next + 1; replies = now }) (window_of (reply ∷ all))
@@ -13,11 +27,14 @@ window_of-more {R} reply all next kept now is added =
     λ i. record { next = number i; replies = replies i }
 
 -- one reply more is kept, while they are at most 32
-pub HasRepliesBefore-more : {R : Type 0} (next : ℕ) (reply : R) (kept now : List R) → HasRepliesBefore next (length kept) → now ≡ take 32 (reply ∷ kept) → HasRepliesBefore (next + 1) (length now)
-HasRepliesBefore-more next reply kept now before added = record {
-  first = omega arith;
-  kept = omega (arith, ap length added, length-take 32 (reply ∷ kept), before.first, before.kept);
-}
+pub HasRepliesBefore-more : {R : Type 0} (next : ℕ) (reply : R) (kept now : List R) → HasRepliesBefore next (length kept) → reverse now ≡ take 32 (reply ∷ reverse kept) → HasRepliesBefore (next + 1) (length now)
+HasRepliesBefore-more next reply kept now before added =
+    let old = length-reverse kept in
+    let new = length-reverse now in
+    record {
+      first = omega arith;
+      kept = omega (arith, ap length added, length-take 32 (reply ∷ reverse kept), before.first, before.kept);
+    }
 
 -- the reply under a number stands as far from the front as calls were answered after it
 taken_under_at : {R : Type 0} (seq : ℕ) (all : List R) (d : R) → 1 ≤ seq → seq ≤ length all → taken_under seq all ≡ Some (get_or all (length all - seq) d)

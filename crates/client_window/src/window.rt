@@ -18,7 +18,7 @@ const MAX_REPLIES: usize = 32;
 /// For how many of them there is room at first.
 const FIRST_PLACES: usize = 4;
 
-/// The number of a client's next call, and the replies to the 32 calls before it.
+/// The number of a client's next call, and the replies to the 32 calls before it, the oldest in front.
 #[derive(Drop)]
 pub struct Window<R> {
     next: u32,
@@ -52,15 +52,26 @@ fn widen<R: Drop>(replies: &mut VecDeque<R>, room: Option<Room<R>>)
     }
 }
 
-/// Puts a reply in front, and lets the last one go where 32 are kept.
+/// Lets the oldest reply go where 32 are kept.
+fn let_oldest_go<R: Drop>(replies: &mut VecDeque<R>)
+    requires { length replies.old.items ≤ 32 }
+    ensures items { reverse replies.new.items ≡ take 31 (reverse replies.old.items) }
+    ensures capacity { deque_capacity replies.new ≡ deque_capacity replies.old }
+{
+    if replies.len() == MAX_REPLIES {
+        drop(replies.pop_front());
+    }
+}
+
+/// Puts a reply behind the others, and lets the oldest one go where 32 are kept.
 fn keep<R: Drop>(replies: &mut VecDeque<R>, reply: R)
     requires bound { length replies.old.items ≤ 32 }
     requires room { min 32 (suc (length replies.old.items)) ≤ deque_capacity replies.old }
-    ensures items { replies.new.items ≡ take 32 (reply ∷ replies.old.items) }
+    ensures items { reverse replies.new.items ≡ take 32 (reply ∷ reverse replies.old.items) }
     ensures capacity { deque_capacity replies.new ≡ deque_capacity replies.old }
 {
-    replies.truncate(MAX_REPLIES - 1);
-    replies.push_front_reserved(reply);
+    let_oldest_go(replies);
+    replies.push_back_reserved(reply);
 }
 
 impl<R: Drop> Window<R> {
@@ -80,7 +91,6 @@ impl<R: Drop> Window<R> {
         ensures { IfOk result (λ window. window ≡ window_of_parts next replies) }
     {
         let mut items = replies.into_vec();
-        items.reverse();
         items.reserve(MAX_REPLIES - items.len())?;
         Ok(Window {
             next,
@@ -98,7 +108,11 @@ impl<R: Drop> Window<R> {
         if seq == self.next {
             return Judged::New;
         }
-        match self.replies.get((self.next - seq - 1) as usize) {
+        let newer = (self.next - seq - 1) as usize;
+        if newer >= self.replies.len() {
+            return Judged::Old;
+        }
+        match self.replies.get(self.replies.len() - 1 - newer) {
             Some(reply) => Judged::Repeat { reply },
             None => Judged::Old,
         }
@@ -143,9 +157,9 @@ impl<R: Drop> Window<R> {
         self.replies.len() as u32
     }
 
-    /// The replies that are kept, the newest first: those in front, and those behind them.
+    /// The replies that are kept, the oldest first: those in front, and those behind them.
     pub fn replies(&self) -> (&[R], &[R])
-        ensures { result.0.now ++ result.1.now ≡ self.now.replies }
+        ensures { result.0.now ++ result.1.now ≡ reverse self.now.replies }
     {
         self.replies.as_slices()
     }
@@ -154,12 +168,6 @@ impl<R: Drop> Window<R> {
     pub fn reply_at(&self, i: u32) -> Option<&R>
         ensures { option_copied result ≡ slice_get (reverse self.now.replies) i }
     {
-        let count = self.replies.len();
-        let place = i as usize;
-        if place < count {
-            self.replies.get(count - 1 - place)
-        } else {
-            None
-        }
+        self.replies.get(i as usize)
     }
 }

@@ -56,11 +56,10 @@ pub(crate) fn copied<T: Duplicate + Drop>(alloc: Global, items: &[T]) -> Result<
 fn replies_of(alloc: Global, window: &Window<Reply>) -> Result<Seq<Reply>, AllocError>
     ensures { IfOk result (λ replies. replies ≡ reverse window.now.replies) }
 {
-    let (newer, older) = window.replies();
+    let (front, behind) = window.replies();
     let mut replies = Vec::with_capacity(alloc, window.count() as usize)?;
-    add_copies(alloc, &mut replies, newer)?;
-    add_copies(alloc, &mut replies, older)?;
-    replies.reverse();
+    add_copies(alloc, &mut replies, front)?;
+    add_copies(alloc, &mut replies, behind)?;
     Ok(Seq::from_vec(replies))
 }
 

@@ -1,6 +1,6 @@
 use Rattle.client_window.proofs.Keeping.{window_of-more, HasRepliesBefore-more}
 use Rattle.client_window.proofs.Placing.{places-kept, room-kept}
-use Rattle.std.proofs.Common.{◌∷◌, take, length, deque_capacity, ap, ◌∙◌, arith}
+use Rattle.std.proofs.Common.{◌∷◌, take, reverse, length, deque_capacity, ap, ◌∙◌, arith}
 use Rattle.client_window.proofs.window.Window.take.Goals as goal
 
 pub keep-requires-clause-room : goal.keep-requires-clause-room
@@ -11,9 +11,9 @@ keep-requires-clause-room g c =
 
 pub invariant_of-self : goal.invariant_of-self
 invariant_of-self g c = record {
-  replies = HasRepliesBefore-more _ c.args.reply _ _ c.self.invariant.replies (c.keep.ensures.items ∙ ap (λ xs. take 32 (c.args.reply ∷ xs)) c.widen.ensures.items);
-  room = places-kept _ _ _ _ _ _ c.keep.ensures.items c.widen.ensures.items c.widen.ensures.places c.keep.ensures.capacity;
+  replies = HasRepliesBefore-more _ c.args.reply _ _ c.self.invariant.replies (c.keep.ensures.items ∙ ap (λ xs. take 32 (c.args.reply ∷ reverse xs)) c.widen.ensures.items);
+  room = places-kept _ _ _ c.keep.new.replies.items _ _ c.keep.ensures.items c.widen.ensures.items c.widen.ensures.places c.keep.ensures.capacity;
 }
 
 pub returns : goal.returns
-returns g c = λ all is. window_of-more c.args.reply all _ _ _ (c.self.view_is ∙ is) (c.keep.ensures.items ∙ ap (λ xs. take 32 (c.args.reply ∷ xs)) c.widen.ensures.items)
+returns g c = λ all is. window_of-more c.args.reply all _ _ _ (c.self.view_is ∙ is) (c.keep.ensures.items ∙ ap (λ xs. take 32 (c.args.reply ∷ reverse xs)) c.widen.ensures.items)
