@@ -1,7 +1,7 @@
 //! Places for more replies.
 ghost use Rattle.std.specs.Prelude.{◌≡◌, ◌≤◌, length, IfOk};
 ghost use Rattle.std.specs.VecDeque.{deque_capacity};
-ghost use Rattle.client_window.specs.Windows.{more_places};
+ghost use Rattle.client_window.specs.Windows.{more_places, places_for};
 
 use std::alloc::{AllocError, Global};
 use std::collections::VecDeque;
@@ -32,6 +32,21 @@ impl<R: Drop> Room<R> {
     {
         let places = VecDeque::with_capacity(alloc, places)?;
         Ok(Room { places })
+    }
+}
+
+/// How many places a window has at least that keeps so many replies.
+pub(crate) fn places_for(kept: usize) -> usize
+    ensures { result ≡ places_for kept }
+{
+    if kept <= 4 {
+        4
+    } else if kept <= 8 {
+        8
+    } else if kept <= 16 {
+        16
+    } else {
+        32
     }
 }
 

@@ -6,7 +6,7 @@ ghost use Rattle.client_window.specs.Windows.{window_of, window_of_parts, HasRep
 ghost use Rattle.client_window.specs.Judgement.{IsJudged};
 
 use crate::Judged;
-use crate::room::{Room, more_places, move_to};
+use crate::room::{Room, more_places, move_to, places_for};
 use ais_values::Seq;
 use std::alloc::{AllocError, Global};
 use std::collections::VecDeque;
@@ -85,13 +85,13 @@ impl<R: Drop> Window<R> {
         })
     }
 
-    /// The window with these parts, the oldest reply first. It takes the memory of all the replies that it may keep.
+    /// The window with these parts, the oldest reply first. It takes the memory of four replies, or of 8, 16 or 32 where it has more.
     pub fn rebuild(alloc: Global, next: u32, replies: Seq<R>) -> Result<Window<R>, AllocError>
         requires { HasRepliesBefore next (length replies) }
         ensures { IfOk result (λ window. window ≡ window_of_parts next replies) }
     {
         let mut items = replies.into_vec();
-        items.reserve(MAX_REPLIES - items.len())?;
+        items.reserve(places_for(items.len()).saturating_sub(items.len()))?;
         Ok(Window {
             next,
             replies: VecDeque::from_vec(items),
