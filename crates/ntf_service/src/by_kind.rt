@@ -1,11 +1,12 @@
 //! The places of subscriptions, by the types of notifications that they have filters of.
-ghost use Rattle.std.specs.Prelude.{◌≡◌, ◌∷◌, [], ◌++◌, ◌<◌, ◌≤◌, length, if◌then◌else◌, is_some};
+ghost use Rattle.std.specs.Prelude.{◌≡◌, ◌∷◌, [], ◌++◌, ◌<◌, ◌≤◌, length, if◌then◌else◌};
 ghost use Rattle.arrayvec.specs.ArrayVec.{array_vec_len};
-ghost use Rattle.ntf_service.specs.ByKind.{kind_for, filter_of, has_filter, positions, filters_of, places_in, IsByKind};
+ghost use Rattle.ntf_service.specs.ByKind.{kind_for, has_filter, filters_of, places_in, IsByKind};
+ghost use Rattle.ntf_service.specs.declared.by_kind.Kind.{Kind};
 
 use crate::subscription::Subscription;
 use arrayvec::ArrayVec;
-use ntf_filters::{Filter, FilterSet};
+use ntf_filters::FilterSet;
 use ntf_types::Body;
 
 /// A type of notifications.
@@ -41,26 +42,6 @@ pub(crate) fn kind_for(body: &Body) -> Kind
     }
 }
 
-/// The filter of a type.
-fn filter_of(set: &FilterSet, kind: Kind) -> &Option<Filter>
-    ensures { result.now ≡ filter_of kind set.now }
-{
-    match kind {
-        Kind::Objects => &set.objects,
-        Kind::Attributes => &set.attributes,
-        Kind::States => &set.states,
-        Kind::Alarms => &set.alarms,
-        Kind::Security => &set.security,
-    }
-}
-
-/// Whether a set has a filter of a type.
-fn has_filter(set: &FilterSet, kind: Kind) -> bool
-    ensures { result ≡ has_filter kind set.now }
-{
-    filter_of(set, kind).is_some()
-}
-
 /// Adds a place behind the others where it is one of theirs.
 fn add_place(places: &mut ArrayVec<u8, 64>, place: usize, theirs: bool)
     requires few { place < 64 }
@@ -72,33 +53,45 @@ fn add_place(places: &mut ArrayVec<u8, 64>, place: usize, theirs: bool)
     }
 }
 
-/// The places of the subscriptions that have a filter of a type.
-fn places_of(subs: &[Subscription], kind: Kind) -> ArrayVec<u8, 64>
-    requires { length subs.now ≤ 64 }
-    ensures { result.items ≡ positions (has_filter kind) (filters_of subs.now) }
-{
-    let mut places = ArrayVec::new();
-    for place in 0..subs.len() {
-        let kept = &subs[place];
-        let theirs = has_filter(kept.filters.get(), kind);
-        add_place(&mut places, place, theirs);
-    }
-    places
-}
-
 impl ByKind {
+    /// No places.
+    fn new() -> ByKind
+        ensures { IsByKind result [] }
+    {
+        ByKind {
+            objects: ArrayVec::new(),
+            attributes: ArrayVec::new(),
+            states: ArrayVec::new(),
+            alarms: ArrayVec::new(),
+            security: ArrayVec::new(),
+        }
+    }
+
+    /// Adds a place behind those of each type that a set has a filter of.
+    fn add(&mut self, place: usize, set: &FilterSet)
+        requires few { place < 64 }
+        requires behind { (kind : Kind) → length (places_in kind self.old) ≤ place }
+        ensures { (kind : Kind) → places_in kind self.new
+            ≡ places_in kind self.old ++ (if has_filter kind set.now then place ∷ [] else []) }
+    {
+        add_place(&mut self.objects, place, set.objects.is_some());
+        add_place(&mut self.attributes, place, set.attributes.is_some());
+        add_place(&mut self.states, place, set.states.is_some());
+        add_place(&mut self.alarms, place, set.alarms.is_some());
+        add_place(&mut self.security, place, set.security.is_some());
+    }
+
     /// The places of these subscriptions.
     pub(crate) fn of(subs: &[Subscription]) -> ByKind
         requires { length subs.now ≤ 64 }
         ensures { IsByKind result (filters_of subs.now) }
     {
-        ByKind {
-            objects: places_of(subs, Kind::Objects),
-            attributes: places_of(subs, Kind::Attributes),
-            states: places_of(subs, Kind::States),
-            alarms: places_of(subs, Kind::Alarms),
-            security: places_of(subs, Kind::Security),
+        let mut by_kind = ByKind::new();
+        for place in 0..subs.len() {
+            let kept = &subs[place];
+            by_kind.add(place, kept.filters.get());
         }
+        by_kind
     }
 
     /// The places that are kept for a type.
