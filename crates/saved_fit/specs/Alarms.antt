@@ -4,8 +4,8 @@ use Rattle.ntf_types.specs.Sound.{IsSound}
 use Rattle.ntf_types.specs.declared.notification.Notification.{Notification}
 use Rattle.alarm_view.specs.Alarms.{IsAlarm}
 
--- an alarm or security alarm that was sent, where the last id is this one
-pub record WasSent (last_id : ℕ) (notification : Notification) : Type 0 where
+-- a sound alarm or security alarm, of an id up to the last one and a time that is not negative
+pub record IsSoundAlarm (last_id : ℕ) (notification : Notification) : Type 0 where
   pub id : notification.id ≤ last_id
   pub body : IsAlarm notification.body
   pub sound : IsSound notification

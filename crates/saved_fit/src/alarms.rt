@@ -5,7 +5,7 @@ ghost use Rattle.client_set.specs.Rising.{IsRising};
 ghost use Rattle.stream_config.specs.Attributes.{IsSized};
 ghost use Rattle.calls.specs.declared.saved.SavedStream.{SavedStream as StreamOf};
 ghost use Rattle.plain_service.specs.Fitness.{IsFitStream, IsStanding, IsFitAlarm, is_record_before, is_id_before, HaveFitAlarms};
-ghost use Rattle.saved_fit.specs.Alarms.{WasSent};
+ghost use Rattle.saved_fit.specs.Alarms.{IsSoundAlarm};
 
 use crate::judging::{Judged, all_fit};
 use crate::rising::{are_rising, ids_rise};
@@ -34,9 +34,9 @@ fn stands(saved: &Saved, number: u32) -> bool
     }
 }
 
-/// Whether a notification is an alarm that was sent, where the last id is this one.
-fn was_sent(last_id: u64, notification: &Notification) -> bool
-    ensures { IsTrue result ↔ WasSent last_id notification.now }
+/// Whether a notification is a sound alarm or security alarm, of an id up to the last one and a time that is not negative.
+fn is_sound_alarm(last_id: u64, notification: &Notification) -> bool
+    ensures { IsTrue result ↔ IsSoundAlarm last_id notification.now }
 {
     notification.id <= last_id
         && is_alarm(&notification.body)
@@ -44,11 +44,11 @@ fn was_sent(last_id: u64, notification: &Notification) -> bool
         && notification.event_time >= 0
 }
 
-/// Whether this holds of a stored alarm.
-fn is_sent(last_id: u64, alarm: &SavedAlarm) -> bool
-    ensures { IsTrue result ↔ WasSent last_id alarm.now.notification }
+/// Whether that of a stored alarm is such a one.
+fn has_sound_alarm(last_id: u64, alarm: &SavedAlarm) -> bool
+    ensures { IsTrue result ↔ IsSoundAlarm last_id alarm.now.notification }
 {
-    was_sent(last_id, alarm.notification.get())
+    is_sound_alarm(last_id, alarm.notification.get())
 }
 
 /// Whether a stored alarm is fit, of a value whose streams are fit.
@@ -56,7 +56,7 @@ fn is_fit_alarm(saved: &Saved, alarm: &SavedAlarm) -> bool
     requires { AllByRecursion (IsFitStream saved.now) saved.now.streams }
     ensures { IsTrue result ↔ IsFitAlarm saved.now alarm.now }
 {
-    stands(saved, alarm.k) && is_sent(saved.last_id, alarm)
+    stands(saved, alarm.k) && has_sound_alarm(saved.last_id, alarm)
 }
 
 impl Judged for SavedAlarm {
