@@ -6,8 +6,8 @@ use std::alloc::{AllocError, Global};
 use std::marker::Model;
 use std::rc::Rc;
 
-/// A value that stands by itself in memory and that several owners share, so that a copy of it takes no memory. Contracts see
-/// the value.
+/// A value that stands by itself in memory and that several owners share, so that a copy of it takes no memory. A copy answers
+/// want of memory only where the count of owners is full. Contracts see the value.
 #[derive(Drop)]
 pub struct Shared<T> {
     inner: Rc<T>,

@@ -115,7 +115,7 @@ fn read_pieces(alloc: Global, text: &[u8]) -> Result<Vec<Piece>, AllocError>
 }
 
 /// The expression that a text is known to be for streams of the kind: it is not looked at whether it is one. Beside that it is
-/// `parse_expr`. An error is want of memory.
+/// `parse_expr`. On an error, which is want of memory, there is no expression.
 pub fn known_expr(alloc: Global, kind: StreamKind, text: &[u8]) -> Result<Expr, AllocError>
     requires valid { IsExpression kind text.now }
     requires bound { length text.now ≤ 1024 }

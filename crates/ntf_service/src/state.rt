@@ -181,8 +181,8 @@ impl NtfState {
     /// filters may not be used; `Exist`, the client has a subscription of that id; `NoResources`,
     /// 64 subscriptions last. Where none holds the subscription is made, with an empty queue, and
     /// the answer is ok. On an error, which is want of memory, and with another answer, nothing
-    /// changes; an error comes only where the answer would be ok. The key is above those of the
-    /// client's subscriptions that last.
+    /// changes; an error comes only where the answer would be ok. The key, which is at least 1 where
+    /// messages and values carry it, is above those of the client's subscriptions that last.
     pub fn subscribe(
         &mut self,
         alloc: Global,

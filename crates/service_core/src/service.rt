@@ -170,8 +170,8 @@ impl Service {
         }
     }
 
-    /// The service of a value that is known to be fit: it is not looked at whether it is. Beside that it is `restore`. An error is
-    /// want of memory.
+    /// The service of a value that is known to be fit: it is not looked at whether it is. Beside that it is `restore`. On an error,
+    /// which is want of memory, there is no service; the value stays as it is.
     pub fn restore_fit(alloc: Global, saved: &Saved) -> Result<Service, AllocError>
         requires { IsFit saved.now }
         ensures { IfOk result (λ service. service ≡ saved.now) }
