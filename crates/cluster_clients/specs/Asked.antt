@@ -1,5 +1,6 @@
 -- Words of public clauses: a client asks for a call.
-use Rattle.std.specs.Prelude.{◌≡◌, ℕ, ◌<◌, ◌≤◌, nat_lt, ◌⊎◌, Bool, true, false, if◌then◌else◌, List, [], ◌∷◌, ◌++◌, slice_get, slice_set, Some}
+use Rattle.std.specs.Prelude.{◌≡◌, ◌⊎◌, ℕ, ◌<◌, ◌≤◌, nat_lt, Bool, true, false, if◌then◌else◌, Some}
+use Rattle.std.specs.Prelude.{List, [], ◌∷◌, ◌++◌, slice_get, slice_set}
 use Rattle.std.specs.List.{prefix_len, insert}
 use Rattle.wire.specs.MessageSpelling.{MessageInRange}
 use Rattle.cluster_facts.specs.Types.{Ask}
@@ -60,7 +61,8 @@ Enlists client agent joins old new =
     AreByClient old → new ≡ (if joins then insert old (place_for client old) agent else old)
 
 -- the first call of a new agent was told; the agent joined the others where its request was posted
-abbrev pub IsPlaced : ℕ → Seen → Sent → List (List ℕ) → List (List ℕ) → List Seen → List Seen → List (List ℕ) → List (List ℕ) → Type 0
+abbrev pub IsPlaced : ℕ → Seen → Sent → List (List ℕ) → List (List ℕ) → List Seen → List Seen
+    → List (List ℕ) → List (List ℕ) → Type 0
 IsPlaced client agent sent old_net new_net old new before after =
     IsToldSent client sent old_net new_net before after × Enlists client agent (is_posted sent) old new
 

@@ -1,5 +1,6 @@
 -- Words of public clauses: how a list of agents is that of a world.
-use Rattle.std.specs.Prelude.{◌≡◌, ℕ, nat_lt, ◌==◌, ◌⊎◌, true, false, Option, List, [], ◌∷◌, ◌++◌, slice_get, slice_set, Some, None, option_map}
+use Rattle.std.specs.Prelude.{◌≡◌, ◌⊎◌, ℕ, nat_lt, ◌==◌, true, false, Option, Some, None, option_map}
+use Rattle.std.specs.Prelude.{List, [], ◌∷◌, ◌++◌, slice_get, slice_set}
 use Rattle.std.specs.List.{position}
 use Rattle.std.specs.List.Sorted.{IsPartitionPoint}
 use Rattle.client_set.specs.Rising.{IsRising}

@@ -27,4 +27,5 @@ PostsAll messages old new before after =
 -- some messages were posted, from the first on
 abbrev pub PostsSome : List Message → List (List ℕ) → List (List ℕ) → Type 0
 PostsSome messages old new =
-    (plain : Plain) (net : List Posting) → IsPlain plain → AreSpelled net old → (count : ℕ) × AreSpelled (posted_all plain (take count messages) net) new
+    (plain : Plain) (net : List Posting) → IsPlain plain → AreSpelled net old → (count : ℕ)
+    × AreSpelled (posted_all plain (take count messages) net) new

@@ -27,7 +27,8 @@ AreSpelled _ _ = ⊥
 -- no spelling is a proper front of another, and messages of one spelling are the same
 abbrev pub SpellingsTell : Type 0
 SpellingsTell =
-    (one other : Message) (more : List ℕ) → MessageFits one → MessageFits other → message_text other ≡ message_text one ++ more → (one ≡ other) × (more ≡ [])
+    (one other : Message) (more : List ℕ) → MessageFits one → MessageFits other
+    → message_text other ≡ message_text one ++ more → (one ≡ other) × (more ≡ [])
 
 -- a message was posted to a net in which these stand: the net that there is now, and the lines
 abbrev pub Posts : Message → List (List ℕ) → List (List ℕ) → List (List ℕ) → List (List ℕ) → Type 0

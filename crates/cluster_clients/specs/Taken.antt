@@ -34,7 +34,8 @@ lines_told None told = kept_lines told
 lines_told (Some place) told = printed told
 
 -- it was delivered: the net and the agents that there are now, the lines, and whether it was taken
-abbrev pub Takes : Option ℕ → Message → List (List ℕ) → List (List ℕ) → List Seen → List Seen → List (List ℕ) → List (List ℕ) → Bool → Type 0
+abbrev pub Takes : Option ℕ → Message → List (List ℕ) → List (List ℕ) → List Seen → List Seen
+    → List (List ℕ) → List (List ℕ) → Bool → Type 0
 Takes place message old_net new_net old new before after loud =
     (plain : Plain) (world : World) → IsPlain plain → AreSpelled world.net old_net → ShowsAgents world old
     → AreSpelled (taken_as plain (number_told place) message world).state.net new_net

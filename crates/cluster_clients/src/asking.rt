@@ -3,7 +3,8 @@ ghost use Rattle.std.specs.Prelude.{◌≡◌, ◌≤◌, ◌<◌, length, true,
 ghost use Rattle.cluster_facts.specs.Agents.{fresh};
 ghost use Rattle.client_agent.specs.Steps.{IsSent};
 ghost use Rattle.cluster_clients.specs.Clients.{StandsAt, IsAbsent};
-ghost use Rattle.cluster_clients.specs.Asked.{CanCallAt, AllStarted, IsSentAt, HasFitRequest, IsToldSent, Enlists, is_posted, IsPlaced, Asks, MayPost, IsPartlyPlaced};
+ghost use Rattle.cluster_clients.specs.Asked.{CanCallAt, AllStarted, IsSentAt, HasFitRequest, IsToldSent};
+ghost use Rattle.cluster_clients.specs.Asked.{Asks, Enlists, is_posted, IsPlaced, MayPost, IsPartlyPlaced};
 ghost use Rattle.cluster_clients.specs.PartlyDone.{AsksPartly};
 
 use crate::agents::{count_below, place_of};

@@ -33,7 +33,8 @@ pub record IsStorage (plain : Plain) (disk : Disk) (storage : Storage disk) : Ty
   -- between, it stands at its place before the last entry, or at that after it, unless that entry leaves it none
   pub keeps : (now : ℤ) (entry : Entry) (past : List Entry) (files : disk.Files) (client number : ℕ) (stored : storage.Record) (spot : storage.Place)
       → IsLegal plain now (entry ∷ past) → AreInRange (entry ∷ past) → Between disk storage (entry ∷ past) files
-      → storage.record_of past client number ≡ Some stored → storage.place past stored ≡ Some spot → IsKept disk storage (entry ∷ past) stored spot files
+      → storage.record_of past client number ≡ Some stored → storage.place past stored ≡ Some spot
+      → IsKept disk storage (entry ∷ past) stored spot files
 
 -- what is so of a record whose reply stands in the net: if the reply says that it is stored, it stands at its place, while it has one
 pub record RecordStays (plain : Plain) (disk : Disk) (storage : Storage disk) (past : List Entry) (files : disk.Files) (client number : ℕ)
