@@ -37,7 +37,7 @@ fn share_of(
         let notification = notification.copy(alloc)?;
         Ok(Share::Whole { notification })
     } else {
-        let mark = mark_of(notification);
+        let mark = mark_of(notification.get());
         Ok(Share::Mark { mark })
     }
 }

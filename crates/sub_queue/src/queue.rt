@@ -62,21 +62,14 @@ fn remove_front(items: &mut VecDeque<Item>, count: usize)
     items.truncate(rest);
 }
 
-/// The type and the id of a notification.
-fn mark_in(notification: &Notification) -> Lost
+/// The type and the id of a notification, which stand for it where it is lost.
+pub fn mark_of(notification: &Notification) -> Lost
     ensures { result ≡ mark_of notification.now }
 {
     Lost {
         kind: kind_of(notification),
         id: notification.id,
     }
-}
-
-/// The type and the id of a notification, which stand for it where it is lost.
-pub fn mark_of(notification: &Shared<Notification>) -> Lost
-    ensures { result ≡ mark_of notification.now }
-{
-    mark_in(notification.get())
 }
 
 /// Adds an item of what was lost, where anything was. It takes the place of a removed one.
@@ -190,7 +183,7 @@ impl SubQueue {
             let content = Content::Notified { notification };
             self.items.push_back_reserved(Item { number, content });
         } else {
-            let mark = mark_of(&notification);
+            let mark = mark_of(notification.get());
             drop(notification);
             self.lost.push_reserved(mark);
         }
