@@ -11,10 +11,7 @@ ghost use Rattle.script_grammar.specs.Reading.{skipped, word, maybe, unless};
 ghost use Rattle.script_grammar.specs.ValueReading.{is_plain, magnitude_at, number_at, in_signed_range, signed_at};
 ghost use Rattle.script_language.specs.ValueReading.{number8_at, number16_at, number32_at, number64_at, signed64_at, script_time_at, client_at, queue_length_at, count_at};
 
-use ais_values::{LAST_TIME, UNKNOWN_TIME};
-
-/// The greatest number of a client.
-const MAX_CLIENT: u64 = 4_096;
+use ais_values::{LAST_TIME, MAX_CLIENT, UNKNOWN_TIME};
 
 /// The most elements of a queue.
 const MAX_QUEUE: u64 = 256;
@@ -154,7 +151,7 @@ pub(crate) fn number64(bytes: &[u8]) -> Option<(u64, &[u8])>
 pub(crate) fn client(bytes: &[u8]) -> Option<(u16, &[u8])>
     ensures { client_at bytes.now ≡ option_map (λ found. (found.0, found.1.now)) result }
 {
-    let (value, rest) = number(bytes, 1, MAX_CLIENT)?;
+    let (value, rest) = number(bytes, 1, u64::from(MAX_CLIENT))?;
     Some((value as u16, rest))
 }
 
