@@ -282,27 +282,6 @@ impl NtfState {
         self.send_plan(alloc, notification)
     }
 
-    // The same of a notification that is lent: a copy of it is shared.
-    fn plan_lent(
-        &mut self,
-        alloc: Global,
-        notification: &Notification,
-    ) -> Result<SendPlan, AllocError>
-        requires can { CanSendMore self.old.table }
-        requires named { with_id (self.old.table.last_id + 1) notification.now
-            ≡ notification.now }
-        ensures ok { IfOk result (PlansSend self.old.table notification.now) }
-        ensures table { self.new.table ≡ self.old.table }
-        ensures room { OnOk result (1 ≤ self.new.spare) }
-    {
-        let copy = notification.copy(alloc)?;
-        let shared = Shared::new(alloc, copy)?;
-        let planned = self.plan_shared(alloc, &shared);
-        drop(shared);
-        let plan = planned?;
-        Ok(plan)
-    }
-
     /// Plans `send`: what it gives and makes of the state, with a share of the notification for each subscription that
     /// asks for it, and makes room for these. Which id the notification has does not matter. The state stays as it is; an
     /// error is want of memory.
@@ -317,8 +296,9 @@ impl NtfState {
         ensures room { OnOk result (1 ≤ self.new.spare) }
     {
         notification.id = self.last_id + 1;
-        let planned = self.plan_lent(alloc, &notification);
-        drop(notification);
+        let shared = Shared::new(alloc, notification)?;
+        let planned = self.plan_shared(alloc, &shared);
+        drop(shared);
         let plan = planned?;
         Ok(plan)
     }
