@@ -68,15 +68,16 @@ impl AlarmView {
 
     /// Adds the alarm of record `number` of the alarm stream. On an error, which is want of memory, no alarm
     /// is added.
-    pub fn add(&mut self, number: u32, notification: Shared<Notification>) -> Result<(), AllocError>
+    pub fn add(&mut self, number: u32, notification: Notification) -> Result<(), AllocError>
         requires { CanAdd number notification self.old.kept }
         ensures ok { OnOk result
             (self.new.kept ≡ self.old.kept ++ kept_alarm number notification ∷ []) }
         ensures err { OnErr result (self.new.kept ≡ self.old.kept) }
     {
         let alloc = *self.alarms.allocator();
+        let shared = Shared::new(alloc, notification)?;
         self.reserve(alloc)?;
-        self.add_reserved(number, notification);
+        self.add_reserved(number, shared);
         Ok(())
     }
 
@@ -155,7 +156,16 @@ impl AlarmView {
 
     /// The alarm at a place, from 0, in order of records, with the number of its record. None
     /// exactly where fewer are kept.
-    pub fn alarm_at(&self, place: u32) -> Option<(u32, &Shared<Notification>)>
+    pub fn alarm_at(&self, place: u32) -> Option<(u32, &Notification)>
+        ensures { MatchOption result (slice_get self.now.kept place ≡ None)
+            (λ found. slice_get self.now.kept place ≡ Some (kept_alarm found.0 found.1.now)) }
+    {
+        let (number, shared) = self.shared_at(place)?;
+        Some((number, shared.get()))
+    }
+
+    /// The alarm at a place as it is shared. Beside that it is `alarm_at`.
+    pub fn shared_at(&self, place: u32) -> Option<(u32, &Shared<Notification>)>
         ensures { MatchOption result (slice_get self.now.kept place ≡ None)
             (λ found. slice_get self.now.kept place ≡ Some (kept_alarm found.0 found.1.now)) }
     {

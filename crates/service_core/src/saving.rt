@@ -129,7 +129,7 @@ fn push_alarm(
     ensures { OnOk result (saved.new ≡ saved.old
         ++ option_to_list (option_map saved_alarm (slice_get alarms.now.kept place))) }
 {
-    match alarms.alarm_at(place) {
+    match alarms.shared_at(place) {
         None => Ok(()),
         Some((k, notification)) => {
             let notification = notification.copy(alloc)?;

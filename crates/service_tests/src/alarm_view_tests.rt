@@ -1,7 +1,7 @@
 ghost use Rattle.std.specs.Prelude.{◌≡◌, ◌+◌, ◌<◌, IfOk, OnOk};
 ghost use Rattle.alarm_view.specs.Alarms.{IsAlarm, IsAboveAll};
 
-use ais_values::{ClassId, Duplicate, Name, Seq, Shared, Text};
+use ais_values::{ClassId, Duplicate, Name, Seq, Text};
 use alarm_view::{AlarmView, Cursor, Direction, SearchMode};
 use ntf_filters::{Filter, FilterSet};
 use ntf_types::{Body, Notification};
@@ -33,16 +33,6 @@ fn alarm(alloc: Global, id: u16, event_time: i64) -> Result<Notification, Fail>
             severity: id,
         },
     })
-}
-
-/// The same, shared.
-fn shared_alarm(alloc: Global, id: u16, event_time: i64) -> Result<Shared<Notification>, Fail>
-    ensures id { IfOk result (λ alarm. alarm.id ≡ id) }
-    ensures alarm { IfOk result (λ alarm. IsAlarm alarm.body) }
-{
-    let alarm = alarm(alloc, id, event_time)?;
-    let shared = Shared::new(alloc, alarm)?;
-    Ok(shared)
 }
 
 /// Filters that ask for alarms of these severities, or of all where the list is empty.
@@ -77,7 +67,7 @@ pub(crate) fn add(
     requires above { IsAboveAll number id view.old.kept }
     ensures { OnOk result (IsAboveAll (number + 1) (id + 1) view.new.kept) }
 {
-    let alarm = shared_alarm(alloc, id, time)?;
+    let alarm = alarm(alloc, id, time)?;
     view.add(number, alarm)?;
     Ok(())
 }
@@ -196,7 +186,7 @@ fn walks_past_what_is_not_asked_for(rt: HostRuntime) -> Result<(), Fail> {
 /// Whether the alarm at a place stands in the record of this number, and has this id.
 fn has_alarm_at(view: &AlarmView, place: u32, number: u32, id: u64) -> bool {
     match view.alarm_at(place) {
-        Some((found, alarm)) => found == number && alarm.get().id == id,
+        Some((found, alarm)) => found == number && alarm.id == id,
         None => false,
     }
 }

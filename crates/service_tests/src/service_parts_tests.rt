@@ -1,6 +1,6 @@
 //! That calls succeed while there is memory, with what the rules say of a few values.
 use crate::fixtures::{alarm, alarms_by};
-use ais_values::{Shared, Status, UNKNOWN_TIME};
+use ais_values::{Status, UNKNOWN_TIME};
 use alarm_view::AlarmView;
 use calls::{Reply, SavedReader};
 use client_window::Judged;
@@ -16,7 +16,7 @@ use stream_config::Mark;
 /// The stored alarms are one of id 1, at the time 100.
 fn one_alarm(rt: &impl Abort, alloc: Global) -> AlarmView {
     let mut view = AlarmView::new(alloc);
-    let alarm = Shared::new(alloc, alarm(rt, alloc, 1, 100, 4)).expect(rt, "memory");
+    let alarm = alarm(rt, alloc, 1, 100, 4);
     view.add(0, alarm).expect(rt, "memory");
     view
 }
