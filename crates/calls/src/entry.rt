@@ -1,6 +1,6 @@
 //! What a service accepts, and the items that it holds for a client.
 use crate::Call;
-use ais_values::{Boxed, Duplicate, Shared};
+use ais_values::{Duplicate, Shared};
 use std::alloc::{AllocError, Global};
 use sub_queue::Item;
 
@@ -29,7 +29,7 @@ pub struct Held {
     pub client: u16,
     /// The number of the call that made the subscription.
     pub key: u32,
-    pub item: Boxed<Item>,
+    pub item: Item,
 }
 
 // Written out, as a derived one is proved anew in each crate that lets an entry go.

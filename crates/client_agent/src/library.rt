@@ -138,7 +138,7 @@ impl Library {
                 Ok(taken)
             }
             Message::Item { key, item, .. } => {
-                let taken = self.take_item(rt, alloc, *key, item.get())?;
+                let taken = self.take_item(rt, alloc, *key, item)?;
                 Ok(taken)
             }
             _ => unreachable!(),

@@ -63,7 +63,7 @@ pub fn put_post(
                 Piece::Word(b" "),
                 Piece::Number(u64::from(*key)),
                 Piece::Word(b" "),
-                Piece::Number(u64::from(item.get().number)),
+                Piece::Number(u64::from(item.number)),
                 Piece::Word(b"\n"),
             ],
         ),

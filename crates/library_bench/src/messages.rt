@@ -4,7 +4,7 @@ ghost use Rattle.std.specs.Prelude.{IfOk};
 ghost use Rattle.wire.specs.MessageSpelling.{MessageInRange};
 
 use ais_values::{ClassId, Name, Seq, Text};
-use calls::{Boxed, Call, Reply, Shared};
+use calls::{Call, Reply, Shared};
 use ntf_types::{Body, Notification};
 use record_print::Header;
 use std::alloc::{AllocError, Global};
@@ -88,7 +88,6 @@ fn message_of(alloc: Global, number: u32) -> Result<Message, AllocError>
                 number: seq,
                 content,
             };
-            let item = Boxed::new(alloc, item)?;
             Ok(Message::Item {
                 client,
                 key: seq,

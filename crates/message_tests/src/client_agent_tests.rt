@@ -172,7 +172,7 @@ fn delivered<R: Abort + Wait>(
     let message = Message::Item {
         client: 7,
         key,
-        item: Boxed::new(alloc, Item { number, content }).expect(rt, "memory"),
+        item: Item { number, content },
     };
     let taken = agent.receive(rt, alloc, &message).expect(rt, "memory");
     let_message_go(Some(message));

@@ -102,7 +102,7 @@ fn reply() -> Message {
 }
 
 /// Item 3 of the subscription of client 1 under key 2.
-fn item(rt: &impl Abort, alloc: Global) -> Message {
+fn item(alloc: Global) -> Message {
     let lost = Seq::new(alloc);
     let item = Item {
         number: 3,
@@ -111,7 +111,7 @@ fn item(rt: &impl Abort, alloc: Global) -> Message {
     Message::Item {
         client: 1,
         key: 2,
-        item: Boxed::new(alloc, item).expect(rt, "memory"),
+        item,
     }
 }
 
@@ -129,7 +129,7 @@ fn tells_of_the_net(rt: HostRuntime) {
     let alloc = rt.alloc();
     post(&rt, alloc, 5, request(&rt, alloc), b"post 5 req 1 3\n");
     post(&rt, alloc, 6, reply(), b"post 6 rep 1 3\n");
-    post(&rt, alloc, 21, item(&rt, alloc), b"post 21 item 1 2 3\n");
+    post(&rt, alloc, 21, item(alloc), b"post 21 item 1 2 3\n");
     post(&rt, alloc, 22, receipt(), b"post 22 rcpt 1 2 3\n");
 }
 

@@ -145,7 +145,7 @@ fn an_item_is_spelled(rt: HostRuntime) {
     };
     lost.push(one).expect(&rt, "memory");
     let content = Content::Discarded { lost };
-    let item = Boxed::new(alloc, Item { number: 3, content }).expect(&rt, "memory");
+    let item = Item { number: 3, content };
     let message = Message::Item {
         client: 1,
         key: 2,

@@ -6,7 +6,7 @@ ghost use Rattle.ntf_service.specs.Told.{told};
 ghost use Rattle.service_core.specs.Holding.{items_by, items_in, items_at};
 
 use ais_values::{Duplicate, Seq};
-use calls::{Boxed, Held};
+use calls::Held;
 use ntf_service::{NtfState, Subscription};
 use std::alloc::{AllocError, Global};
 use sub_queue::Item;
@@ -22,7 +22,7 @@ fn add_each(
     ensures { OnOk result (held.new ≡ held.old ++ map (held_for client key) items.now) }
 {
     for item in items {
-        let item = Boxed::new(alloc, item.copy(alloc)?)?;
+        let item = item.copy(alloc)?;
         held.push(Held { client, key, item })?;
     }
     Ok(())

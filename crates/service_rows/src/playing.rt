@@ -35,7 +35,7 @@ fn place_of(items: &[Held], place: u64) -> Option<(u16, u32, u32)> {
     let mut left = place;
     for held in items {
         if left == 1 {
-            return Some((held.client, held.key, held.item.get().number));
+            return Some((held.client, held.key, held.item.number));
         }
         left = left.saturating_sub(1);
     }

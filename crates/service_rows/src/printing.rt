@@ -75,7 +75,7 @@ fn put_lost(alloc: Global, lost: &[Lost], out: &mut Vec<u8>) -> Result<(), Alloc
 fn put_item(alloc: Global, held: &Held, out: &mut Vec<u8>) -> Result<(), AllocError> {
     let client = held.client;
     let key = held.key;
-    let item = held.item.get();
+    let item = &held.item;
     let number = item.number;
     let front = format!(in alloc; "item {client} {key} {number}")?;
     put(out, front.as_bytes())?;

@@ -88,7 +88,7 @@ fn a_held_item_is_copied(rt: HostRuntime) {
     let held = Held {
         client: 1,
         key: 2,
-        item: Boxed::new(alloc, item).expect(&rt, "memory"),
+        item,
     };
     copied(&rt, alloc, held);
 }

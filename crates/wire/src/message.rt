@@ -26,7 +26,7 @@ pub enum Message {
     Item {
         client: u16,
         key: u32,
-        item: Boxed<Item>,
+        item: Item,
     },
     /// The receipt of a client for the items of the subscription `key`, through a number.
     Receipt {
