@@ -3,12 +3,11 @@ use Rattle.std.proofs.Common.{◌≡◌, ℕ, zero, suc, ◌+◌, ◌<◌, ◌�
 use Rattle.std.specs.Prelude.{IfSome}
 use Rattle.std.specs.Result.{is_ok}
 use Rattle.std.specs.FinMap as files
-use Rattle.disk_model.specs.Counts.{read_more}
+use Rattle.disk_model.specs.Counts.{ReadsOnce, read_more}
 use Rattle.disk_model.specs.Disk.{Files, length_of}
 use Rattle.disk_model.specs.declared.answers.DiskAnswer.{DiskAnswer}
 use Rattle.disk_model.specs.declared.answers.DiskAnswer.TheVariants.{Memory, Failed, Stopped}
 use Rattle.disk_model.specs.declared.tally.Tally.{Tally}
-use Rattle.cluster_clients.specs.Listing.{ReadsOnce}
 use Rattle.cluster_clients.specs.Looks.{ListCalls, calls_for, FileCalls, Looks}
 
 -- A listing.

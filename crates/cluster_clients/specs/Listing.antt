@@ -1,11 +1,7 @@
--- Words of bodies alone: the steps of a listing, and the reading of bytes.
-use Rattle.std.specs.Prelude.{◌≡◌, ℕ, List, ◌++◌, take, Option, IfSome, option_map, Result, Ok, Err}
+-- Words of bodies alone: the steps of a listing.
+use Rattle.std.specs.Prelude.{◌≡◌, ℕ, List, ◌++◌, take, Option, IfSome, option_map}
 use Rattle.std.specs.Option.{option_to_list}
-use Rattle.disk_model.specs.Counts.{read_more}
 use Rattle.disk_model.specs.Disk.{Files, length_of}
-use Rattle.disk_model.specs.declared.answers.DiskAnswer.{DiskAnswer}
-use Rattle.disk_model.specs.declared.answers.DiskAnswer.TheVariants.{Memory, Failed, Stopped}
-use Rattle.disk_model.specs.declared.tally.Tally.{Tally}
 use Rattle.cluster_clients.specs.Files.{sizes_of, listed_lines}
 
 -- the line of a name's file was added, if the file has a length
@@ -20,10 +16,3 @@ pub record Listing (names : List (List ℕ)) (count : ℕ) (held now : Option Fi
   pub shown : lines ≡ listed_lines listed
   pub told : IfSome held (λ f. listed ≡ sizes_of f (take count names))
   pub same : now ≡ held
-
--- one reading call was made, or none for want of memory
-abbrev pub ReadsOnce : {T : Type 0} → Result T DiskAnswer → Tally → Tally → Type 0
-ReadsOnce (Ok done) old new = new ≡ read_more 1 old
-ReadsOnce (Err Memory) old new = new ≡ old
-ReadsOnce (Err Failed) old new = new ≡ read_more 1 old
-ReadsOnce (Err Stopped) old new = ⊥

@@ -55,6 +55,13 @@ Counts (Err Memory) old new = new ≡ asked old
 Counts (Err Failed) old new = (reaches 1 old.armed ≡ false) × (new ≡ passed 1 old)
 Counts (Err Stopped) old new = (reaches 1 old.armed ≡ true) × (new ≡ stopped 1 old)
 
+-- one reading call was made, or none for want of memory
+abbrev pub ReadsOnce : {T : Type 0} → Result T DiskAnswer → Tally → Tally → Type 0
+ReadsOnce (Ok done) old new = new ≡ read_more 1 old
+ReadsOnce (Err Memory) old new = new ≡ old
+ReadsOnce (Err Failed) old new = new ≡ read_more 1 old
+ReadsOnce (Err Stopped) old new = ⊥
+
 -- so many changing calls do not reach the one at which the disk stops; where none was made nothing is said
 abbrev pub IsShort : ℕ → Option ℕ → Type 0
 IsShort count armed = 1 ≤ count → reaches count armed ≡ false

@@ -1,9 +1,8 @@
 //! A server that starts from a journal.
-ghost use Rattle.std.specs.Prelude.{◌≡◌, ◌⊎◌, ◌≤◌, ◌<◌, ◌^◌, ◌-◌, ℕ, List, length, Option, Some, option_map, IfOk, IfErr, IfSome, OnOk, IsErrOf};
+ghost use Rattle.std.specs.Prelude.{◌≡◌, ◌⊎◌, ◌<◌, ◌^◌, ◌-◌, ℕ, List, Option, Some, option_map, IfOk, IfErr, IfSome, IsErrOf};
 ghost use Rattle.ais_values.specs.Causes.{RoseExactlyOn};
-ghost use Rattle.disk_model.specs.Disk.{bytes_at};
 ghost use Rattle.disk_model.specs.declared.answers.DiskAnswer.{DiskAnswer};
-ghost use Rattle.journal_frames.specs.Frames.{journal_name, mended, AreShort, IsShort};
+ghost use Rattle.journal_frames.specs.Frames.{mended, AreShort, IsShort};
 ghost use Rattle.journal_frames.specs.Staging.{HasStaged, IsMended, Keeps};
 ghost use Rattle.mirror.specs.declared.heard.Role.TheVariants.{Standby};
 ghost use Rattle.mirror.specs.Pairing.{deeds_kept};
@@ -15,7 +14,7 @@ use crate::Journal;
 use crate::replaying::{ReplayAnswer, Replayed, replay};
 use ais_values::Seq;
 use calls::{Entry, let_entries_go};
-use disk_model::{DiskAnswer, DiskFault, SharedDisk};
+use disk_model::{DiskAnswer, DiskFault, SharedDisk, read_front};
 use journal_frames::{JOURNAL_FILE, mend};
 use mirror::{Node, let_heard_go, let_node_go};
 use std::alloc::Global;
@@ -51,38 +50,6 @@ fn answer_of(answer: DiskAnswer) -> ColdAnswer
         DiskAnswer::Memory => ColdAnswer::Memory,
         DiskAnswer::Failed => ColdAnswer::Failed,
         DiskAnswer::Stopped => ColdAnswer::Stopped,
-    }
-}
-
-/// The first bytes of a file, so many of them; fewer where the disk gives fewer.
-fn read_front<J: SharedDisk>(
-    alloc: Global,
-    disk: &mut J,
-    name: &[u8],
-    size: u64,
-) -> Result<Seq<u8>, DiskAnswer>
-    ensures told { IfOk result (λ bytes. IfSome (J.seen disk.old).files (λ files.
-        bytes ≡ bytes_at files name.now 0 size)) }
-    ensures same { (J.seen disk.new).files ≡ (J.seen disk.old).files }
-    ensures cause { RoseExactlyOn (J.seen disk.old).faults (J.seen disk.new).faults result
-        DiskAnswer.Failed }
-    ensures never_stopped { IsErrOf result DiskAnswer.Stopped → ⊥ }
-    ensures stops { (J.seen disk.new).stops ≡ (J.seen disk.old).stops }
-    ensures armed { (J.seen disk.new).tally.armed ≡ (J.seen disk.old).tally.armed }
-{
-    if size == 0 {
-        return Ok(Seq::new(alloc));
-    }
-    let mut bytes = match vec![in alloc; 0; size as usize] {
-        Ok(bytes) => bytes,
-        Err(_) => return Err(DiskAnswer::Memory),
-    };
-    match disk.read(name, 0, bytes.as_mut_slice()) {
-        Ok(count) => {
-            bytes.truncate(count);
-            Ok(Seq::from_vec(bytes))
-        }
-        Err(DiskFault::Failed) => Err(DiskAnswer::Failed),
     }
 }
 
