@@ -1,5 +1,5 @@
 //! What the calls make of the alarms and of their order.
-ghost use Rattle.std.specs.Prelude.{◌≡◌, ◌<◌, ◌≤◌, ◌∷◌, [], ◌++◌, drop, length, nat_le, not, insert, vec_len};
+ghost use Rattle.std.specs.Prelude.{◌≡◌, ◌<◌, ◌≤◌, ◌∷◌, [], ◌++◌, nat_le, not, insert, vec_len};
 ghost use Rattle.std.specs.Vec.{vec_capacity};
 ghost use Rattle.std.specs.VecDeque.{deque_len, deque_capacity};
 ghost use Rattle.std.specs.List.{filter, prefix_len};
@@ -9,7 +9,7 @@ ghost use Rattle.alarm_view.specs.Inside.{IsIndexed};
 use crate::KeptAlarm;
 use crate::place::{Place, cut_before, place_of};
 use crate::search::count_below;
-use ais_values::Shared;
+use ais_values::{Shared, remove_front};
 use ntf_types::Notification;
 use std::collections::VecDeque;
 
@@ -61,16 +61,6 @@ fn count_early(alarms: &VecDeque<KeptAlarm>, number: u32) -> usize
         .iter()
         .take_while(|alarm| !is_from(alarm.number, number))
         .count()
-}
-
-/// Removes alarms from the front.
-fn remove_front(alarms: &mut VecDeque<KeptAlarm>, count: usize)
-    requires { count ≤ deque_len alarms.old }
-    ensures { alarms.new.items ≡ drop count alarms.old.items }
-{
-    let rest = alarms.len() - count;
-    alarms.rotate_left(count);
-    alarms.truncate(rest);
 }
 
 /// Drops from the order the place of the only alarm whose record is below a number: the first. It is found by halving.

@@ -1,12 +1,12 @@
 //! The queue of one subscription.
-ghost use Rattle.std.specs.Prelude.{◌≡◌, ◌+◌, ◌<◌, ◌≤◌, ◌↔◌, false, [], ◌++◌, drop, length, IsTrue, IsOk, IfOk, OnOk, OnErr};
+ghost use Rattle.std.specs.Prelude.{◌≡◌, ◌+◌, ◌<◌, ◌≤◌, ◌↔◌, false, [], ◌++◌, length, IsTrue, IsOk, IfOk, OnOk, OnErr};
 ghost use Rattle.std.specs.VecDeque.{deque_len, deque_capacity};
 ghost use Rattle.sub_queue.specs.Items.{mark_of, numbered, discarded};
 ghost use Rattle.ntf_types.specs.declared.notification.Notification.{Notification};
 ghost use Rattle.sub_queue.specs.Queue.{IsCapacity, IsSound, IsNew, HasNumberLeft, empty_queue, queue_of_parts, has_room, offered, with_lost, received};
 
 use crate::{Content, Item, Lost};
-use ais_values::{Seq, Shared};
+use ais_values::{Seq, Shared, remove_front};
 use ntf_types::{Notification, kind_of};
 use std::alloc::{AllocError, Global};
 use std::collections::VecDeque;
@@ -49,17 +49,6 @@ impl Model for SubQueue {
     ghost view = { kept_inside };
 
     ghost invariant = { IsKept };
-}
-
-/// Removes items from the front.
-fn remove_front(items: &mut VecDeque<Item>, count: usize)
-    requires { count ≤ deque_len items.old }
-    ensures items { items.new.items ≡ drop count items.old.items }
-    ensures capacity { deque_capacity items.new ≡ deque_capacity items.old }
-{
-    let rest = items.len() - count;
-    items.rotate_left(count);
-    items.truncate(rest);
 }
 
 /// The type and the id of a notification, which stand for it where it is lost.

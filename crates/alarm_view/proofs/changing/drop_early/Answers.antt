@@ -10,9 +10,9 @@ remove_front-requires c =
     omega (arith, c.count_early-count.ensures, most, c.args.alarms.now.ok.0)
 
 -- what is left where some are dropped
-left : (c : After-remove_front) → c.remove_front.new.alarms.items ≡ from_record c.args.number c.args.alarms.now.items
+left : (c : After-remove_front) → c.remove_front.new.items.items ≡ from_record c.args.number c.args.alarms.now.items
 left c =
-    c.remove_front.ensures ∙ ap (λ k. drop k c.args.alarms.now.items) c.count_early-count.ensures ∙ sym (from_record-drop c.args.number c.args.alarms.now.items c.requires.in_order)
+    c.remove_front.ensures.items ∙ ap (λ k. drop k c.args.alarms.now.items) c.count_early-count.ensures ∙ sym (from_record-drop c.args.number c.args.alarms.now.items c.requires.in_order)
 
 pub returns-then-count-gt0-clause-alarms : goal.returns-then-count-gt0-clause-alarms
 returns-then-count-gt0-clause-alarms c =
