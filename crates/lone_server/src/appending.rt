@@ -1,5 +1,5 @@
 //! An entry that joins the journal.
-ghost use Rattle.std.specs.Prelude.{◌≡◌, ◌⊎◌, [], ◌∷◌, IfOk, OnOk, OnErr};
+ghost use Rattle.std.specs.Prelude.{◌≡◌, ◌⊎◌, IfOk, OnOk, OnErr};
 ghost use Rattle.std.specs.List.{AllByRecursion};
 ghost use Rattle.ais_values.specs.Causes.{RoseExactlyOn};
 ghost use Rattle.disk_model.specs.declared.answers.DiskAnswer.{DiskAnswer};
@@ -7,11 +7,10 @@ ghost use Rattle.wire.specs.MessageSpelling.{MessageInRange};
 ghost use Rattle.lone_server.specs.Appends.{confirmed_by, AppendsCalls, AppendsFirst, FirstCanJoin, LosesFirst};
 
 use crate::Lone;
-use ais_values::Seq;
 use disk_model::{DiskAnswer, SharedDisk};
 use lead_server::{send_all, take_first};
 use std::alloc::{AllocError, Global};
-use wire::{Message, let_message_go};
+use wire::{Message, let_message_go, one_message};
 
 /// Appends the first message on the way to the journal, if there is one, and answers with it: it is in the journal then.
 ///
@@ -48,27 +47,12 @@ pub fn append_first<J: SharedDisk>(
     }
 }
 
-/// A list of one message.
-fn one(alloc: Global, message: Message) -> Result<Seq<Message>, AllocError>
-    ensures { IfOk result (λ messages. messages ≡ message ∷ []) }
-{
-    let mut messages = match Vec::with_capacity(alloc, 1) {
-        Ok(messages) => messages,
-        Err(error) => {
-            let_message_go(Some(message));
-            return Err(error);
-        }
-    };
-    messages.push_reserved(message);
-    Ok(Seq::from_vec(messages))
-}
-
 /// That the entry of this number is in the journal is on the way back. Where memory runs out all stays.
 pub fn put_back(alloc: Global, servers: &mut Lone, number: u64) -> Result<(), AllocError>
     ensures ok { OnOk result (servers.new ≡ confirmed_by number servers.old) }
     ensures err { OnErr result (servers.new ≡ servers.old) }
 {
-    match one(alloc, Message::MirrorAck { number }) {
+    match one_message(alloc, Message::MirrorAck { number }) {
         Ok(messages) => send_all(alloc, &mut servers.back, messages),
         Err(error) => Err(error),
     }

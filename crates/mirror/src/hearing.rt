@@ -18,14 +18,13 @@ ghost use Rattle.mirror.specs.Reacting.{IsAccepted, IsHeardAgain, IsAgainByValue
 ghost use Rattle.mirror.specs.Preparing.{becomes_in};
 
 use crate::owed::Owed;
-use crate::pairing::one;
 use crate::{Heard, Outcome, Role, Why};
 use ais_values::{Duplicate, Seq};
 use calls::{Call, Entry, Reply, Shared};
 use client_window::Judged;
 use service_core::Service;
 use std::alloc::{AllocError, Global};
-use wire::Message;
+use wire::{Message, one_message};
 
 /// What becomes of a message, and what the entry asks for, where one was accepted.
 #[derive(Drop)]
@@ -78,7 +77,7 @@ fn repeat(alloc: Global, client: u16, seq: u32, reply: &Reply) -> Result<Heard, 
         seq,
         reply: reply.copy(alloc)?,
     };
-    let to_net = one(alloc, message)?;
+    let to_net = one_message(alloc, message)?;
     Ok(Heard {
         to_net,
         to_peer: Seq::new(alloc),

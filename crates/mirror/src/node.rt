@@ -22,7 +22,7 @@ ghost use Rattle.mirror.specs.Pairing.{taken_over, confirmed, IsHeard, IsFollowe
 ghost use Rattle.mirror.specs.InsideNode.{state_in, IsOpen};
 
 use crate::hearing::{ignore, kept_reply};
-use crate::pairing::{can_join, has_room, is_next, one, send};
+use crate::pairing::{can_join, has_room, is_next, send};
 use crate::parts::push_items;
 use crate::state::NodeState;
 use crate::{Heard, Outcome, Role, Why};
@@ -33,7 +33,7 @@ use service_core::Service;
 use std::alloc::{AllocError, Global};
 use std::marker::Model;
 use std::mem::replace;
-use wire::Message;
+use wire::{Message, one_message};
 
 /// What ties the active server to its partner.
 #[derive(Clone, Copy)]
@@ -407,7 +407,7 @@ impl Node {
         ensures err { OnErr result (self.new ≡ self.old) }
     {
         let number = saved.number;
-        let to_peer = one(alloc, Message::JoinAck { number })?;
+        let to_peer = one_message(alloc, Message::JoinAck { number })?;
         let service = Service::restore_fit(alloc, saved)?;
         let node = Node::start(alloc, Role::Standby, service);
         drop(replace(self, node));

@@ -29,7 +29,7 @@ use service_core::Service;
 use std::alloc::{AllocError, Global};
 use std::mem::replace;
 use stream_layout::Deed;
-use wire::Message;
+use wire::{Message, one_message};
 
 /// Messages for the partner, and an entry that is committed.
 pub(crate) fn send(
@@ -56,21 +56,6 @@ pub(crate) fn send_also(mut heard: Heard, to_peer: Seq<Message>) -> Heard
     heard
 }
 
-/// A list of one message.
-pub(crate) fn one(alloc: Global, message: Message) -> Result<Seq<Message>, AllocError>
-    ensures { IfOk result (λ messages. messages ≡ message ∷ []) }
-{
-    let mut messages = match Vec::with_capacity(alloc, 1) {
-        Ok(messages) => messages,
-        Err(error) => {
-            drop(message);
-            return Err(error);
-        }
-    };
-    messages.push_reserved(message);
-    Ok(Seq::from_vec(messages))
-}
-
 /// What ties the active server to its partner once the entry in hand is worked.
 pub(crate) fn link(tie: Tie) -> Tie
     ensures { result ≡ tied_after tie }
@@ -87,7 +72,7 @@ pub(crate) fn snapshot_of(service: &Service, alloc: Global) -> Result<Seq<Messag
 {
     let saved = service.save(alloc)?;
     let saved = Boxed::new(alloc, saved)?;
-    one(alloc, Message::Snapshot { saved })
+    one_message(alloc, Message::Snapshot { saved })
 }
 
 /// Whether a server can join with a value: it is fit.
@@ -179,7 +164,7 @@ fn prepare(
                 time: now,
                 call: call.copy(alloc)?,
             };
-            one(alloc, Message::Mirror { number, entry })
+            one_message(alloc, Message::Mirror { number, entry })
         }
         Message::Receipt {
             client,
@@ -192,7 +177,7 @@ fn prepare(
                 through: *through,
                 time: now,
             };
-            one(alloc, Message::Mirror { number, entry })
+            one_message(alloc, Message::Mirror { number, entry })
         }
         _ => Ok(Seq::new(alloc)),
     }

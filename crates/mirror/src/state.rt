@@ -12,7 +12,7 @@ ghost use Rattle.mirror.specs.Working.{deeds_in, replies_in, worked};
 ghost use Rattle.mirror.specs.Pairing.{alone, sent, IsJoinBegun, parted, worked_out, with_peer, deeds_kept, taken_over, IsHeard, IsFollowed, CanApplyIn};
 
 use crate::node::Tie;
-use crate::pairing::{hear_linked, link, one, send, send_also};
+use crate::pairing::{hear_linked, link, send, send_also};
 use crate::replica::Replica;
 use crate::{Heard, Outcome, Role};
 use ais_values::{Duplicate, Seq};
@@ -23,7 +23,7 @@ use std::alloc::{AllocError, Global};
 use std::mem::replace;
 use stream_files::perform;
 use stream_layout::Deed;
-use wire::Message;
+use wire::{Message, one_message};
 
 /// What a server of a pair has: its replica of the service; the entry in hand while it waits until the partner has it; what ties it to
 /// its partner; the messages that the partner is promised; and the deeds of the last entry that it applied as standby, where it
@@ -237,7 +237,7 @@ impl NodeState {
         ensures ok { IfOk result (λ heard. IsFollowed number entry.now self.old heard self.new) }
         ensures err { OnErr result (self.new ≡ self.old) }
     {
-        let to_peer = one(alloc, Message::MirrorAck { number })?;
+        let to_peer = one_message(alloc, Message::MirrorAck { number })?;
         let committed = entry.copy(alloc)?;
         let deeds = match self.replica.apply(alloc, entry) {
             Ok(deeds) => deeds,

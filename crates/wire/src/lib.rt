@@ -13,6 +13,7 @@ mod ntf;
 mod number;
 mod parts;
 mod saved;
+mod single;
 mod text;
 mod wire;
 
@@ -20,3 +21,4 @@ pub use code::{MAX_SPELLING, decode, encode};
 pub use going::{let_message_go, let_messages_go, mirrored};
 pub use law::{law_of_equality, law_of_spellings};
 pub use message::{Message, WireAnswer, WireWhy};
+pub use single::one_message;
