@@ -5,6 +5,6 @@ mod playing;
 mod scripted;
 mod showing;
 
-pub use playing::{as_answer, play};
+pub use playing::{as_answer, done_at_stop, play};
 pub use scripted::Scripted;
 pub use showing::{put_refusal, show_file, show_files};

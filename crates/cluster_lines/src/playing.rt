@@ -168,12 +168,12 @@ fn is_own(line: &Line) -> bool
     )
 }
 
-/// An end by a stop of the disk is none.
-fn done_at_stop(done: Result<(), DiskAnswer>) -> Result<(), DiskAnswer>
+/// The same end, but that one by a stop of a disk is none.
+pub fn done_at_stop<T: Copy>(done: Result<T, DiskAnswer>) -> Result<(), DiskAnswer>
     ensures { DoneAtStop done result }
 {
     match done {
-        Ok(()) => Ok(()),
+        Ok(_) => Ok(()),
         Err(answer) => match answer {
             DiskAnswer::Stopped => Ok(()),
             DiskAnswer::Memory => Err(DiskAnswer::Memory),

@@ -4,7 +4,6 @@ ghost use Rattle.script_lines.specs.declared.line.Line.TheVariants.{Ack, Arm, Cr
 ghost use Rattle.script_lines.specs.declared.line.Server.{Server};
 ghost use Rattle.cluster_rounds.specs.Wild.{always, StandsOn};
 ghost use Rattle.cluster_rounds.specs.Worlds.{any_state};
-ghost use Rattle.cluster_lines.specs.Answers.{DoneAtStop};
 ghost use Rattle.cluster_lines.specs.Lines.{shows_files, IsInRange, IsOwn};
 ghost use Rattle.cold_servers.specs.ColdKit.{cold_kit, cold_script};
 ghost use Rattle.cold_servers.specs.Steps.{AreUp, IsRefusedUp, PlaysUp};
@@ -13,26 +12,12 @@ use crate::Solo;
 use crate::arming::{arm_disk, arm_journal, crash, disarm};
 use crate::standing::refuse;
 use ais_values::Seq;
-use cluster_lines::as_answer;
+use cluster_lines::{as_answer, done_at_stop};
 use cluster_rounds::Cluster;
 use disk_model::{DiskAnswer, SharedDisk};
 use lone_server::{hear_back, is_clear, join_journal, work_entry};
 use script_lines::{Line, Server};
 use std::alloc::Global;
-
-/// An end by a stop of a disk is none.
-fn done_at_stop<T: Copy>(done: Result<T, DiskAnswer>) -> Result<(), DiskAnswer>
-    ensures { DoneAtStop done result }
-{
-    match done {
-        Ok(_) => Ok(()),
-        Err(answer) => match answer {
-            DiskAnswer::Stopped => Ok(()),
-            DiskAnswer::Memory => Err(DiskAnswer::Memory),
-            DiskAnswer::Failed => Err(DiskAnswer::Failed),
-        },
-    }
-}
 
 /// A line that is refused while the server is up.
 fn refuse_line<D: SharedDisk, J: SharedDisk>(
