@@ -10,7 +10,7 @@ ghost use Rattle.plain_service.specs.Storing.{deeds_of};
 ghost use Rattle.plain_service.specs.Values.{StandsFor};
 ghost use Rattle.mirror.specs.declared.heard.Role.TheVariants as role;
 ghost use Rattle.mirror.specs.declared.owed.Owed.{Owed as OwedOf};
-ghost use Rattle.service_core.specs.Applying.{CanApply, CanAcceptIn};
+ghost use Rattle.service_core.specs.Applying.{CanApply};
 ghost use Rattle.service_core.specs.Valuing.{value_after, deeds_by_value};
 ghost use Rattle.mirror.specs.declared.heard.Why.TheVariants.{Busy};
 ghost use Rattle.mirror.specs.Replicas.{HasRoom, at_rest, at_work};
@@ -22,7 +22,7 @@ ghost use Rattle.mirror.specs.Preparing.{entry_by, held_back, wanted_by};
 use crate::node::Tie;
 use crate::replica::Replica;
 use crate::{Heard, Outcome};
-use ais_values::{Duplicate, LAST_TIME, MAX_CLIENT, Seq};
+use ais_values::{Duplicate, Seq};
 use calls::{Boxed, Entry, MAX_ENTRIES, Saved};
 use saved_fit::is_fit;
 use service_core::Service;
@@ -89,17 +89,6 @@ pub(crate) fn has_room(service: &Service) -> bool
     service.number() < MAX_ENTRIES
 }
 
-/// Whether a further entry of a client can be accepted at a moment.
-fn can_accept(service: &Service, client: u16, time: i64) -> bool
-    ensures { IsTrue result ↔ CanAcceptIn service.now client time }
-{
-    1 <= client
-        && client <= MAX_CLIENT
-        && 0 <= time
-        && time <= LAST_TIME
-        && service.number() < MAX_ENTRIES
-}
-
 /// Whether an entry can be applied.
 fn can_apply(service: &Service, entry: &Entry) -> bool
     ensures { IsTrue result ↔ CanApply entry.now service.now }
@@ -110,13 +99,13 @@ fn can_apply(service: &Service, entry: &Entry) -> bool
             seq,
             time,
             call: _,
-        } => can_accept(service, *client, *time) && *seq == service.next(*client),
+        } => service.can_accept(*client, *time) && *seq == service.next(*client),
         Entry::Receipted {
             client,
             key,
             through,
             time,
-        } => can_accept(service, *client, *time) && service.is_new(*client, *key, *through),
+        } => service.can_accept(*client, *time) && service.is_new(*client, *key, *through),
     }
 }
 

@@ -1,11 +1,7 @@
 //! Calls are applied, one after another.
-ghost use Rattle.std.specs.Prelude.{IsTrue, pos};
-ghost use Rattle.service_core.specs.Applying.{CanAcceptIn};
-
 use crate::calling::{alarm_of, join_of, open_of, start_of, subscribe_of};
 use crate::kind::Kind;
-use ais_values::MAX_CLIENT;
-use calls::{Call, Entry, MAX_ENTRIES, Shared};
+use calls::{Call, Entry, Shared};
 use service_core::Service;
 use std::alloc::{AllocError, Global};
 
@@ -25,16 +21,9 @@ pub(crate) struct Setting {
     pub(crate) alarms: u32,
 }
 
-/// Whether an entry of this client can be accepted.
-fn can_accept(service: &Service, client: u16) -> bool
-    ensures { IsTrue result → CanAcceptIn service.now client (pos 1704067300000000000) }
-{
-    client >= 1 && client <= MAX_CLIENT && service.number() < MAX_ENTRIES
-}
-
 /// Applies a client's next call, and tells how many deeds it has.
 fn apply(alloc: Global, service: &mut Service, client: u16, call: Call) -> Result<u64, AllocError> {
-    if !can_accept(service, client) {
+    if !service.can_accept(client, NOW) {
         drop(call);
         return Err(AllocError);
     }

@@ -1,5 +1,5 @@
 //! The service.
-ghost use Rattle.std.specs.Prelude.{◌≡◌, ◌<◌, ◌↔◌, true, ℕ, List, [], IfOk, OnErr, IsErrOf};
+ghost use Rattle.std.specs.Prelude.{◌≡◌, ◌<◌, ◌↔◌, IsTrue, true, ℕ, List, [], IfOk, OnErr, IsErrOf};
 ghost use Rattle.calls.specs.declared.entry.Entry.{Entry};
 ghost use Rattle.calls.specs.declared.reply.Reply.{Reply};
 ghost use Rattle.client_window.specs.Windows.{window_of};
@@ -13,7 +13,7 @@ ghost use Rattle.plain_service.specs.Fitness.{IsFit};
 ghost use Rattle.service_table.specs.Tables.{saved_table};
 ghost use Rattle.service_table.specs.Steps.{window_for, after_receipt_in};
 ghost use Rattle.ntf_history.specs.Tables.{HaveQueues, is_new_in as is_new_for_table};
-ghost use Rattle.service_core.specs.Applying.{CanApply, next_in, is_new_in};
+ghost use Rattle.service_core.specs.Applying.{CanAcceptIn, CanApply, next_in, is_new_in};
 ghost use Rattle.service_core.specs.Beginning.{BeginsAs, CanBeginAs, HasBegun};
 ghost use Rattle.service_core.specs.Following.{HasFollowed};
 ghost use Rattle.service_core.specs.Valuing.{window_in, items_held, Applies};
@@ -23,8 +23,8 @@ use crate::acting::act;
 use crate::kept::{Kept, Whole};
 use crate::parts::Parts;
 use crate::{Effect, RestoreAnswer, holding, opening, restoring, saving};
-use ais_values::Seq;
-use calls::{Call, Entry, Held, Reply, Saved};
+use ais_values::{LAST_TIME, MAX_CLIENT, Seq};
+use calls::{Call, Entry, Held, MAX_ENTRIES, Reply, Saved};
 use client_window::Judged;
 use saved_fit::is_fit;
 use service_parts::{answer_call, judge_call, next_call, room_for};
@@ -239,6 +239,18 @@ impl Service {
         ensures { result ≡ self.now.number }
     {
         self.whole.kept.parts.number
+    }
+
+    /// Whether a further entry of a client can be accepted at a moment: the client is 1 to 4,096, the time 0 to
+    /// 9,000,000,000,000,000,000, and fewer than 4,000,000,000 entries were accepted. It takes no memory.
+    pub fn can_accept(&self, client: u16, time: i64) -> bool
+        ensures { IsTrue result ↔ CanAcceptIn self.now client time }
+    {
+        1 <= client
+            && client <= MAX_CLIENT
+            && 0 <= time
+            && time <= LAST_TIME
+            && self.number() < MAX_ENTRIES
     }
 
     /// Applies an entry: a call that has the number of its client's next one, or a new receipt, of a client from 1 to

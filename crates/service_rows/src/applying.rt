@@ -1,23 +1,15 @@
 //! Entries are applied to a service, and to its twin.
-ghost use Rattle.std.specs.Prelude.{IsTrue};
-ghost use Rattle.service_core.specs.Applying.{CanAcceptIn, CanApply};
+ghost use Rattle.service_core.specs.Applying.{CanApply};
 
-use crate::beginning::{Session, is_moment};
+use crate::beginning::Session;
 use crate::files::perform_all;
 use crate::printing::{put, put_reply};
 use crate::twins::twin_agrees;
-use ais_values::{Duplicate, MAX_CLIENT};
-use calls::{Call, Entry, MAX_ENTRIES, Reply, Shared};
+use ais_values::Duplicate;
+use calls::{Call, Entry, Reply, Shared};
 use client_window::Judged;
 use service_core::{Effect, Service};
 use std::alloc::{AllocError, Global};
-
-/// Whether an entry of this client can be accepted.
-fn can_accept(service: &Service, client: u16, now: i64) -> bool
-    ensures { IsTrue result → CanAcceptIn service.now client now }
-{
-    client >= 1 && client <= MAX_CLIENT && is_moment(now) && service.number() < MAX_ENTRIES
-}
 
 /// Whether the window of a client judges a call that was answered so, and those behind it.
 fn is_judged(service: &Service, client: u16, seq: u32, reply: &Reply) -> bool {
@@ -87,7 +79,7 @@ pub(crate) fn apply_call(
     out: &mut Vec<u8>,
 ) -> Result<(), AllocError> {
     let time = session.now;
-    if !can_accept(&session.service, client, time) {
+    if !session.service.can_accept(client, time) {
         return put(out, b"not accepted\n");
     }
     let seq = session.service.next(client);
@@ -132,9 +124,7 @@ pub(crate) fn apply_receipt(
     out: &mut Vec<u8>,
 ) -> Result<(), AllocError> {
     let time = session.now;
-    if !can_accept(&session.service, client, time)
-        || !session.service.is_new(client, key, through)
-    {
+    if !session.service.can_accept(client, time) || !session.service.is_new(client, key, through) {
         return put(out, b"not accepted\n");
     }
     let entry = Entry::Receipted {

@@ -23,7 +23,7 @@ pub(crate) struct Session {
     pub(crate) now: i64,
 }
 
-/// Whether this is a time at which a service can begin, and an entry be accepted.
+/// Whether this is a time at which a service can begin.
 pub(crate) fn is_moment(time: i64) -> bool
     ensures { IsTrue result → IsMoment time }
 {
