@@ -5,7 +5,8 @@ ghost use Rattle.cluster_clients.specs.Fetching.{IsReadAs};
 
 use message_net::Net;
 use std::alloc::{AllocError, Global};
-use wire::{MAX_SPELLING, Message, WireAnswer, WireWhy, decode, law_of_spellings};
+use wire::{Message, WireAnswer, WireWhy, decode, law_of_spellings};
+use wire_code::MAX_SPELLING;
 
 /// What a byte string of the net is.
 #[derive(PartialEq, Drop)]

@@ -4,7 +4,7 @@ ghost use Rattle.wire_code.specs.Reading.{number_at, GivesAlways};
 ghost use Rattle.journal_frames.specs.Reading.{ReadsBody, ReadsFrame};
 
 use byteorder::{BigEndian, ByteOrder};
-use wire_code::Fault;
+use wire_code::{Fault, MAX_SPELLING};
 
 // The length in four bytes at the front, and what follows it.
 #[tactic(auto, unfolding(wire_code::specs::Reading::number_at))]
@@ -24,7 +24,7 @@ fn read_body(bytes: &[u8]) -> Option<(&[u8], &[u8])>
     match read_length(bytes) {
         Ok((length, rest)) => {
             let size = length as usize;
-            if size > 4_294_967_294 || rest.len() < size {
+            if size > MAX_SPELLING || rest.len() < size {
                 None
             } else {
                 Some(rest.split_at(size))

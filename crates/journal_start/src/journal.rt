@@ -10,7 +10,8 @@ ghost use Rattle.journal_start.specs.Journals.{made_of, longer_by, pushed, Perfo
 use disk_model::{DiskAnswer, SharedDisk};
 use journal_frames::{append_text, behind_gate, make_file};
 use std::alloc::{AllocError, Global};
-use wire::{MAX_SPELLING, Message, encode};
+use wire::{Message, encode};
+use wire_code::MAX_SPELLING;
 
 /// A journal of more bytes or messages takes no further one.
 const MAX_JOURNAL: u64 = 9_000_000_000_000_000_000;

@@ -16,9 +16,6 @@ use wire_code::{Fault, Trouble};
 /// Room that the spelling of most messages needs no more than.
 const ROOM: usize = 64;
 
-/// The most bytes that are read as a message: each place in them, and the one behind them, fits 32 bits.
-pub const MAX_SPELLING: usize = 4_294_967_294;
-
 /// The spelling of a message. What the condition asks is that its clients are 1 to 4,096, and that its other
 /// numbers that begin at 1 are not 0.
 ///

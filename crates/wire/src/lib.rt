@@ -17,7 +17,7 @@ mod single;
 mod text;
 mod wire;
 
-pub use code::{MAX_SPELLING, decode, encode};
+pub use code::{decode, encode};
 pub use going::{let_message_go, let_messages_go, mirrored};
 pub use law::{law_of_equality, law_of_spellings};
 pub use message::{Message, WireAnswer, WireWhy};

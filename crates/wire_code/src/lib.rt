@@ -7,4 +7,4 @@ mod number;
 
 pub use fault::{Fault, Trouble};
 pub use law::law_of_numbers;
-pub use number::{read_client, read_count, read_first, read_within};
+pub use number::{MAX_SPELLING, read_client, read_count, read_first, read_within};

@@ -7,6 +7,9 @@ use crate::Fault;
 use ais_values::MAX_CLIENT;
 use byteorder::{BigEndian, ByteOrder};
 
+/// The most bytes that are read as a message, or as the text of a frame: each place in them, and the one behind them, fits 32 bits.
+pub const MAX_SPELLING: usize = 4_294_967_294;
+
 /// Reads one byte, as the place of a variant is.
 pub fn read_first(bytes: &[u8]) -> Result<(u8, &[u8]), Fault>
     ensures { GivesAlways (λ found. (found.0, found.1.now)) result (first_at bytes.now) }
