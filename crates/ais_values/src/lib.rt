@@ -19,7 +19,7 @@ mod text;
 mod times;
 
 pub use boxed::Boxed;
-pub use clients::MAX_CLIENT;
+pub use clients::{MAX_CLIENT, MAX_REPLIES};
 pub use codes::{CodeRow, code_of, name_of};
 pub use digits::hex_digit;
 pub use duplicate::{Duplicate, both};

@@ -6,7 +6,7 @@ ghost use Rattle.client_set.specs.Rising.{without};
 ghost use Rattle.cluster_facts.specs.Agents.{service_of, call_of, kept_call, requests_of, log_after, ntf_after};
 ghost use Rattle.client_agent.specs.Inside.{calls_kept, Fall};
 
-use ais_values::{Duplicate, Which};
+use ais_values::{Duplicate, MAX_REPLIES, Which};
 use calls::{Ask, Call, Shared};
 use std::alloc::{AllocError, Global};
 use std::collections::VecDeque;
@@ -20,7 +20,7 @@ pub struct Kept {
 }
 
 /// How many numbers the calls without a reply may span.
-const WINDOW: u64 = 32;
+const WINDOW: u64 = MAX_REPLIES as u64;
 
 /// The service that a call belongs to.
 pub fn service_of(call: &Call) -> Which

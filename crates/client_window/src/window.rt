@@ -7,15 +7,12 @@ ghost use Rattle.client_window.specs.Judgement.{IsJudged};
 
 use crate::Judged;
 use crate::room::{Room, more_places, move_to, places_for};
-use ais_values::Seq;
+use ais_values::{MAX_REPLIES, Seq};
 use std::alloc::{AllocError, Global};
 use std::collections::VecDeque;
 use std::marker::Model;
 
-/// The most replies that are kept.
-const MAX_REPLIES: usize = 32;
-
-/// For how many of them there is room at first.
+/// For how many replies there is room at first.
 const FIRST_PLACES: usize = 4;
 
 /// The number of a client's next call, and the replies to the 32 calls before it, the oldest in front.

@@ -11,7 +11,7 @@ ghost use Rattle.plain_service.specs.Legal.{IsClient};
 ghost use Rattle.plain_service.specs.Fitness.{AreClients, IsAmong, IsFitWindow};
 
 use crate::rising::are_rising;
-use ais_values::MAX_CLIENT;
+use ais_values::{MAX_CLIENT, MAX_REPLIES};
 use calls::{SavedReader, SavedWindow};
 
 /// Whether a number is that of a client.
@@ -136,20 +136,12 @@ pub(crate) fn are_among(clients: &[u16], some: &[u16]) -> bool
     some.iter().all(|client| is_among(clients, *client))
 }
 
-/// The most replies of a client that are kept.
-const MAX_REPLIES: u64 = 32;
-
 /// Whether so many replies are kept before the next call.
 fn has_replies_before(next: u32, count: usize) -> bool
     ensures { IsTrue result ↔ HasRepliesBefore next count }
 {
-    let calls = u64::from(next.saturating_sub(1));
-    let kept = if calls < MAX_REPLIES {
-        calls
-    } else {
-        MAX_REPLIES
-    };
-    next >= 1 && count as u64 == kept
+    let calls = next.saturating_sub(1) as usize;
+    next >= 1 && count == calls.min(MAX_REPLIES)
 }
 
 /// Whether the window of a client is fit, once so many entries were accepted.
