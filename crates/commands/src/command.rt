@@ -10,6 +10,7 @@ use command_line::read_line;
 use scan_lines::Shown;
 use script::whole_number;
 use std::alloc::{AllocError, Global};
+use stream_config::{MAX_RECORD, MIN_RECORD};
 
 /// What is asked of a file of records.
 #[derive(Clone, Copy, Debug, PartialEq, Eq)]
@@ -104,11 +105,14 @@ fn seed_of(word: &str) -> Option<u64>
     whole_number(word.as_bytes(), 0, u64::MAX)
 }
 
+// The most turns of a script that is made.
+const MAX_TURNS: u64 = 100_000;
+
 // The command that makes a script.
 fn gen_command(count: &str, seed: &str) -> Option<Command>
     ensures { result ≡ gen_command count.now seed.now }
 {
-    match number_of(count, 1, 100_000) {
+    match number_of(count, 1, MAX_TURNS) {
         None => None,
         Some(count) => match seed_of(seed) {
             None => None,
@@ -121,7 +125,7 @@ fn gen_command(count: &str, seed: &str) -> Option<Command>
 fn load_command(count: &str, seed: &str) -> Option<Command>
     ensures { result ≡ load_command count.now seed.now }
 {
-    match number_of(count, 1, 100_000) {
+    match number_of(count, 1, MAX_TURNS) {
         None => None,
         Some(count) => match seed_of(seed) {
             None => None,
@@ -144,6 +148,12 @@ fn command_of_three(word: &str, one: &str, two: &str) -> Option<Command>
     }
 }
 
+// The least size of records.
+const MIN_SIZE: u64 = MIN_RECORD as u64;
+
+// The greatest size of records.
+const MAX_SIZE: u64 = MAX_RECORD as u64;
+
 // The size of records that a word names.
 fn record_size(word: &str) -> Option<u32>
     ensures { result ≡ record_size word.now }
@@ -151,7 +161,7 @@ fn record_size(word: &str) -> Option<u32>
     if word == "0" {
         Some(0)
     } else {
-        number_of(word, 32, 16_384)
+        number_of(word, MIN_SIZE, MAX_SIZE)
     }
 }
 

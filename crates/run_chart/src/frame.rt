@@ -2,8 +2,12 @@
 ghost use Rattle.std.specs.Prelude.{◌<◌, ◌^◌};
 
 use crate::events::Server;
+use ais_values::MAX_CLIENT;
 use std::alloc::{AllocError, Global};
 use std::collections::BTreeSet;
+
+/// How many clients there can be.
+const MAX_CLIENTS: usize = MAX_CLIENT as usize;
 
 /// How many lines a panel has.
 pub(crate) const PANEL_ROWS: usize = 100;
@@ -64,7 +68,7 @@ impl Frame {
 
     /// The line of the client at a place.
     pub(crate) fn line_at(&self, place: usize) -> u64 {
-        GUTTER + CLIENT * (place.min(4096) as u64) + CLIENT - 12
+        GUTTER + CLIENT * (place.min(MAX_CLIENTS) as u64) + CLIENT - 12
     }
 
     /// The line of a client.
@@ -79,7 +83,7 @@ impl Frame {
     pub(crate) fn net(&self) -> u64
         ensures { result < 2 ^ 20 }
     {
-        GUTTER + CLIENT * (self.clients.len().min(4096) as u64)
+        GUTTER + CLIENT * (self.clients.len().min(MAX_CLIENTS) as u64)
     }
 
     /// The right side of the net's column.

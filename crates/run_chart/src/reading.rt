@@ -1,12 +1,14 @@
 //! The reading of a printed line, but for the notifications and the lines of a script in it.
 use crate::events::{Event, Kind, Naming, Role, Server};
 use crate::words::{Words, are_numbers, last_field, last_word, number_of};
+use ais_values::MAX_TEXT;
+use stream_config::MAX_MASK;
 
 /// The greatest number of bytes that a line of a script puts into the net.
-const LONGEST: u64 = 16_384;
+const LONGEST: u64 = MAX_TEXT as u64;
 
 /// The mask of a stream that lets all severities pass.
-const GREATEST_MASK: u64 = 127;
+const GREATEST_MASK: u64 = MAX_MASK as u64;
 
 /// What a line tells, if a run prints such a line. What stands in it as in a script is not looked at.
 pub(crate) fn event_of(line: &[u8]) -> Option<Event> {

@@ -1,4 +1,5 @@
 //! A line as words with one space between them.
+use ais_values::MAX_CLIENT;
 
 /// The words of a line that are not read yet; none at its end.
 #[derive(Clone, Copy)]
@@ -44,7 +45,8 @@ impl<'a> Words<'a> {
 
     /// The next word as a client.
     pub(crate) fn client(&mut self) -> Option<u64> {
-        self.count().filter(|number| *number <= 4096)
+        self.count()
+            .filter(|number| *number <= u64::from(MAX_CLIENT))
     }
 
     /// All that is left, if something is.

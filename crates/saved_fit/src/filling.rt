@@ -5,10 +5,10 @@ ghost use Rattle.stream_config.specs.Sizes.{records_per_file};
 ghost use Rattle.stream_config.specs.Fit.{count_in, HasFitBytes, IsFilled, AreFilled, BeginEvenly, AreEven};
 ghost use Rattle.saved_fit.specs.Filling.{AreEvenIfAlike};
 
-use stream_config::{FullAction, LogFile, StreamAttrs, StreamState, per_file};
+use stream_config::{FullAction, LogFile, MAX_RECORD, StreamAttrs, StreamState, per_file};
 
 /// The most bytes of a record.
-const MAX_BYTES: u64 = 16_384;
+const MAX_BYTES: u64 = MAX_RECORD as u64;
 
 /// How many of so many records stand in a file: those for which it has slots, where they wrap.
 fn count_in(attrs: &StreamAttrs, count: u32) -> u32

@@ -14,7 +14,7 @@ mod state;
 
 pub use attrs::{FullAction, StreamAttrs, StreamName};
 pub use cfg::cfg_text;
-pub use check::{check_attrs, have_one_place};
+pub use check::{MAX_RECORD, MIN_RECORD, check_attrs, have_one_place};
 pub use defaults::{default_format, well_known};
 pub use event::{Stamps, StreamEvent};
 pub use law::{law_of_equality, law_of_sizes, law_of_tests};
