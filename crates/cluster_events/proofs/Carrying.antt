@@ -107,7 +107,7 @@ Keeps-sent x (waits call rest) (inl same) = inl same
 Keeps-sent x (waits call rest) (inr stands) = inr (Keeps-sent x rest stands)
 Keeps-sent x (answered call reply told rest) stands = inr (Keeps-sent x rest stands)
 
-requests_of-posted : (client : ℕ) (net : List Message) (kept : List (ℕ × Call)) → ((x : ℕ × Call) → Stands x kept → Stands x (sent_by client net)) → AllByRecursion (λ message. Stands message net) (requests_of client kept)
+pub requests_of-posted : (client : ℕ) (net : List Message) (kept : List (ℕ × Call)) → ((x : ℕ × Call) → Stands x kept → Stands x (sent_by client net)) → AllByRecursion (λ message. Stands message net) (requests_of client kept)
 requests_of-posted client net [] sent = tt
 requests_of-posted client net (x ∷ kept) sent =
     All-append (λ message. Stands message net) (requests_of client kept) (Request client x.0 x.1 ∷ [])
@@ -131,7 +131,7 @@ greatest_receipt-posted client key (suc taken) net counted is =
     let P : Bool → Type 0 = λ b. AllByRecursion (λ message. Stands message net) (if b then [] else Receipt client key taken ∷ []) in
     by_test P taken 0 (λ none. tt) (λ some. (receipts_of-posted client key taken net (IsCounted-at key taken (receipts_of client net) counted (omega arith) (omega arith)), tt))
 
-greatest_receipts-posted : (client : ℕ) (net : List Message) {heard : List (ℕ × Reply)} {subscriptions : List (ℕ × ℕ)} {living : List Living} → IsCounted (receipts_of client net) → Lives heard (receipts_of client net) subscriptions living → AllByRecursion (λ message. Stands message net) (greatest_receipts client living)
+pub greatest_receipts-posted : (client : ℕ) (net : List Message) {heard : List (ℕ × Reply)} {subscriptions : List (ℕ × ℕ)} {living : List Living} → IsCounted (receipts_of client net) → Lives heard (receipts_of client net) subscriptions living → AllByRecursion (λ message. Stands message net) (greatest_receipts client living)
 greatest_receipts-posted client net counted none_live = tt
 greatest_receipts-posted client net counted (lives {living = living} subscription next_is rest) =
     All-append (λ message. Stands message net) (greatest_receipts client living) (greatest_receipt client subscription.key subscription.next)

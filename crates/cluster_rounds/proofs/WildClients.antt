@@ -1,24 +1,23 @@
 -- A reply or an item is delivered to a client's agent, in a world whose history is not read.
-use Rattle.std.proofs.Common.{◌≡◌, inl, inr, ℕ, zero, suc, ◌≤◌, Bool, true, false, if◌then◌else◌, nat_le, Option, Some, None, slice_get, get_or, List, [], ◌∷◌, ◌++◌, length, refl, sym, subst, ◌∙◌, arith}
+use Rattle.std.proofs.Common.{◌≡◌, inl, inr, ℕ, ◌≤◌, Bool, true, false, if◌then◌else◌, nat_le, Option, Some, None, slice_get, get_or, List, [], ◌∷◌, ◌++◌, length, refl, sym, subst, ◌∙◌, arith}
 use Rattle.std.proofs.lemmas.Option.{get_or_from_slice_get}
 use Rattle.std.proofs.lemmas.Bool.{cases_Bool}
 use Rattle.std.specs.List.{AllByRecursion}
 use Rattle.cluster_facts.specs.Types.{Ask, Call, Reply, Status, Callback, Item, WireWhy, Message, Request, Answer, Delivery, Receipt}
-use Rattle.cluster_facts.specs.Lists.{Stands, IsCounted, count_of}
+use Rattle.cluster_facts.specs.Lists.{Stands}
 use Rattle.cluster_facts.specs.Messages.{Posting, Raw, messages_in, sent_by, answers_to, receipts_of}
 use Rattle.cluster_facts.specs.Service.{Plain, IsPlain}
-use Rattle.cluster_facts.specs.Agents.{Living, Agent, after_reply, kept_call, callbacks_of, lacks_place, find_living, after_item, requests_of, greatest_receipt, greatest_receipts, resent, is_shut, after_call, call_of, refusal, dispatch_refusal, after_dispatch_one}
+use Rattle.cluster_facts.specs.Agents.{Living, Agent, after_reply, kept_call, callbacks_of, lacks_place, find_living, after_item, requests_of, greatest_receipts, resent, is_shut, after_call, call_of, refusal, dispatch_refusal, after_dispatch_one}
 use Rattle.cluster_facts.specs.World.{World, with_agent, enlisted, injected, knows_raw}
-use Rattle.cluster_facts.specs.Facts.{IsClient, view_of, Lives}
-use Rattle.cluster_facts.specs.Facts.Lives.{none as none_live, lives, refused}
+use Rattle.cluster_facts.specs.Facts.{IsClient, view_of}
 use Rattle.cluster_clients.specs.Spelled.{AreSpelled, Injects, IsFetched}
 use Rattle.cluster_clients.specs.Replies.{FindsReply}
 use Rattle.cluster_clients.specs.Clients.{StandsAt, dispatch_as, Dispatches, ShowsAgents}
 use Rattle.cluster_clients.proofs.DispatchSteps.{seen-at}
-use Rattle.cluster_facts.proofs.Words.{each_client, All-map, All-append, by_test, IsCounted-bound, IsNumbered-bound}
+use Rattle.cluster_facts.proofs.Words.{each_client, All-map, All-append, IsCounted-bound, IsNumbered-bound}
 use Rattle.cluster_facts.proofs.Clients.{IsClient-call, IsClient-reply, IsClient-item, find_living-found, subscribed-asked, asked_for-number}
-use Rattle.cluster_facts.proofs.Posting.{posted-new, posted-keeps, answers_to-stands, receipts_of-stands, sent_by-posted, sent_by-stands, answers_to-posted, receipts_of-posted, posting_at-stands}
-use Rattle.cluster_events.proofs.Carrying.{Keeps-sent, IsCounted-at, reply_at-stands}
+use Rattle.cluster_facts.proofs.Posting.{posted-new, posted-keeps, answers_to-stands, receipts_of-stands, sent_by-stands, answers_to-posted, posting_at-stands}
+use Rattle.cluster_events.proofs.Carrying.{Keeps-sent, reply_at-stands, requests_of-posted, greatest_receipts-posted}
 use Rattle.cluster_events.specs.ClientEvents.Fate.{Takes, Misses}
 use Rattle.cluster_events.specs.ClientEvents.{reply_by, Fate, fate_of, item_as, item_by, send, ask_by, ask, inject, dispatch_all_by, dispatch_one_by}
 use Rattle.cluster_events.proofs.Sound.{fate_of-takes, refusal-open}
@@ -223,27 +222,6 @@ inject-delivers bytes front why world clients =
     }
 
 -- What an agent sends again stands in the net.
-
-requests_of-posted : (client : ℕ) (net : List Message) (kept : List (ℕ × Call)) → ((x : ℕ × Call) → Stands x kept → Stands x (sent_by client net)) → AllByRecursion (λ message. Stands message net) (requests_of client kept)
-requests_of-posted client net [] sent = tt
-requests_of-posted client net (x ∷ kept) sent =
-    All-append (λ message. Stands message net) (requests_of client kept) (Request client x.0 x.1 ∷ [])
-    (requests_of-posted client net kept (λ y stands. sent y (inr stands)))
-    (sent_by-posted client x.0 x.1 net (sent x (inl refl)), tt)
-
-greatest_receipt-posted : (client key next : ℕ) (net : List Message) → IsCounted (receipts_of client net) → next ≡ suc (count_of key (receipts_of client net)) → AllByRecursion (λ message. Stands message net) (greatest_receipt client key next)
-greatest_receipt-posted client key zero net counted is = tt
-greatest_receipt-posted client key (suc taken) net counted is =
-    let P : Bool → Type 0 = λ b. AllByRecursion (λ message. Stands message net) (if b then [] else Receipt client key taken ∷ []) in
-    by_test P taken 0 (λ none. tt) (λ some. (receipts_of-posted client key taken net (IsCounted-at key taken (receipts_of client net) counted (omega arith) (omega arith)), tt))
-
-greatest_receipts-posted : (client : ℕ) (net : List Message) {heard : List (ℕ × Reply)} {subscriptions : List (ℕ × ℕ)} {living : List Living} → IsCounted (receipts_of client net) → Lives heard (receipts_of client net) subscriptions living → AllByRecursion (λ message. Stands message net) (greatest_receipts client living)
-greatest_receipts-posted client net counted none_live = tt
-greatest_receipts-posted client net counted (lives {living = living} subscription next_is rest) =
-    All-append (λ message. Stands message net) (greatest_receipts client living) (greatest_receipt client subscription.key subscription.next)
-    (greatest_receipts-posted client net counted rest)
-    (greatest_receipt-posted client subscription.key subscription.next net counted next_is)
-greatest_receipts-posted client net counted (refused subscription status told rest) = greatest_receipts-posted client net counted rest
 
 pub resent-wild : (client : ℕ) (world : World) → AreClients world → AllPosted (resent client (world.agents client)) world
 resent-wild client world clients =

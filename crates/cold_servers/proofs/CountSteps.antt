@@ -80,7 +80,7 @@ broke-as answer calls count held mid left counts is within rose =
 
 -- Armed counts: a disk that did not stop is armed as it was.
 
-some-lowered : (count : ℕ) (armed : Option ℕ) → is_some (lowered count armed) ≡ is_some armed
+pub some-lowered : (count : ℕ) (armed : Option ℕ) → is_some (lowered count armed) ≡ is_some armed
 some-lowered count None = refl
 some-lowered count (Some left) = refl
 

@@ -52,7 +52,7 @@ use Rattle.cold_servers.specs.ColdSeen.{ColdSeen, FilesHeld, LeavesBoth, LeavesT
 use Rattle.lone_server.specs.Joining.{CommitsJoined, EndsWith, JoinsOne, JoinsOver, left_by}
 use Rattle.cold_servers.specs.ColdCounts.{Done, join_calls, work_calls}
 use Rattle.cold_servers.specs.CountLaws.{between-one, between-same, made-same}
-use Rattle.cold_servers.proofs.CountSteps.{Stands, done-changed, made-by}
+use Rattle.cold_servers.proofs.CountSteps.{Stands, done-changed, made-by, some-lowered}
 use Rattle.cold_servers.proofs.MarkSteps.{mark_by, seats-are}
 
 -- The state in which an entry waits, and the one in which it joined.
@@ -148,10 +148,6 @@ pub journal-longer : (setup : Setup) (past : List Entry) (entry : Entry) (held l
 journal-longer setup past entry None left can is tells = is
 journal-longer setup past entry (Some files) left can is tells =
     (all_applied (append_calls (length (framed (texts_of (messages_of setup past)))) (message_text (next_message past entry))) files, is, journal-done setup past entry files tells can)
-
-pub some-lowered : (count : ℕ) (armed : Option ℕ) → is_some (lowered count armed) ≡ is_some armed
-some-lowered count None = refl
-some-lowered count (Some left) = refl
 
 less-suc : (n : ℕ) → nat_lt n (suc n) ≡ true
 less-suc n = grind (arith, nat_tests)

@@ -20,6 +20,7 @@ use Rattle.service_laws.specs.PlainOf.{plain_of}
 use Rattle.service_laws.specs.StorageOf.{storage_of}
 use Rattle.service_laws.proofs.HistoryLaws.{history-of}
 use Rattle.service_laws.proofs.ServiceLaws.{is_plain}
+use Rattle.service_laws.proofs.EndsKept.{whole-attempt}
 use Rattle.cluster_facts.specs.Types.{Entry}
 use Rattle.cluster_facts.specs.History.{Hand, Empty, Waiting, Applied, Ready, accepted, accepted_by, committed, committed_by}
 use Rattle.cluster_facts.specs.Storage.{Attempt, Between}
@@ -126,10 +127,6 @@ attempt-undone disk.Memory call calls old new same = inl same
 attempt-undone disk.Failed call calls old new left = inr (inl (inl left))
 attempt-undone disk.Stopped call calls old new left = inr (inl (inr left))
 
-attempt-whole : (calls : List DeviceCall) (old : Files) → Attempt service_disk calls old (all_applied calls old)
-attempt-whole [] old = refl
-attempt-whole (call ∷ calls) old = inr (inr (attempt-whole calls (applied call old)))
-
 -- another attempt
 again-between : (setup : Setup) (past : List Entry) (entry : Entry) (old new : Files) → Between service_disk (storage_of setup) (entry ∷ past) old → Attempt service_disk (calls_of_all (deeds_of setup past entry)) old new → Between service_disk (storage_of setup) (entry ∷ past) new
 again-between setup past entry old new between attempt = one_more_attempt between attempt
@@ -154,7 +151,7 @@ done-between setup found None left P can is holds = is
 done-between setup [] (Some files) left P can is holds = (files, is, can files holds)
 done-between setup (entry ∷ past) (Some files) left P can is holds =
     let calls = calls_of_all (deeds_of setup past entry) in
-    (all_applied calls files, is, again-between setup past entry files (all_applied calls files) (can files holds) (attempt-whole calls files))
+    (all_applied calls files, is, again-between setup past entry files (all_applied calls files) (can files holds) (whole-attempt calls files))
 
 -- by which history was found
 leaves-as : (P Q : Files → Type 0) (held left : Option Files) → ((files : Files) → P files → Q files) → LeavesTold P held left → LeavesTold Q held left

@@ -55,8 +55,8 @@ use Rattle.cold_servers.specs.ColdSeen.{ColdSeen, JournalHeld, LeavesBoth, Leave
 use Rattle.cold_servers.proofs.AckState.{ready_at}
 use Rattle.cold_servers.specs.ColdCounts.{Done, join_calls, work_calls}
 use Rattle.cold_servers.specs.CountLaws.{between-one, between-same, made-same}
-use Rattle.cold_servers.proofs.CountSteps.{Stands, done-changed, made-by}
-use Rattle.cold_servers.proofs.JoinState.{left-lowered, some-lowered}
+use Rattle.cold_servers.proofs.CountSteps.{Stands, done-changed, made-by, some-lowered}
+use Rattle.cold_servers.proofs.JoinState.{left-lowered}
 use Rattle.cold_servers.proofs.MarkSteps.{mark_by, seats-are}
 
 -- What is in hand is ready.

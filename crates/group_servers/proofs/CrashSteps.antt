@@ -45,7 +45,7 @@ use Rattle.lead_rounds.proofs.LeadSteps.{answered-history, accepted-history}
 use Rattle.group_servers.specs.declared.group.Seat.{Seat}
 use Rattle.group_servers.specs.declared.group.Group.{Group}
 use Rattle.group_servers.specs.Caught.{CatchesIf, PutsCaught, taken_if}
-use Rattle.group_servers.specs.Deals.{AreSome, Spent, fell_behind, last_calls, total}
+use Rattle.group_servers.specs.Deals.{AreSome, Spent, last_calls, total}
 use Rattle.group_servers.specs.Falls.{IsFitSeat, TookOver, AllFell, FellPartly, StaysAt, all_wayless}
 use Rattle.group_servers.specs.Followed.{row_calls}
 use Rattle.group_servers.specs.GroupCounts.{CountsCrash, CrashEnded, Crashed, FaultsLine, LacksCrash, UsesLine, count_up, fell_first, kept_calls}
@@ -62,7 +62,7 @@ use Rattle.group_servers.specs.Lines.{takers}
 use Rattle.group_servers.specs.Steps.{Crashes, CrashesOn, crashed_by}
 use Rattle.group_servers.specs.Tried.{Makes, Row, Tried}
 use Rattle.group_servers.specs.Tries.{TriesPartly, Tries}
-use Rattle.group_servers.proofs.DealSteps.{before-caused, stops-caused, stops-row, stops-tell, stops_before, stops_with, sum-none}
+use Rattle.group_servers.proofs.DealSteps.{before-caused, stops-caused, stops-row, stops-tell, stops_before, stops_with, sum-none, behind-is}
 use Rattle.group_servers.proofs.DeliverSteps.{MayCome}
 use Rattle.group_servers.proofs.EndSteps.{ended-as}
 use Rattle.group_servers.proofs.FallLines.{takers-named, takers-wayless}
@@ -136,10 +136,6 @@ has-calls setup fails [] some = absurd (omega arith)
 has-calls setup fails (entry ∷ past) some = some
 
 -- How many fell, by the row of those that failed as they took over.
-
-stops-behind : (made : List ℕ) → stops_with (length made) ≡ fell_behind made
-stops-behind [] = refl
-stops-behind (one ∷ made) = refl
 
 before-first : (made : List ℕ) → stops_before (length made) ≡ fell_first made
 before-first [] = refl
@@ -329,7 +325,7 @@ module _ (n : ℕ) where
             record {
               row = made;
               downs = subst (λ (k : ℕ). count_up state ≡ suc k + count_up (over fell_so).state) (sym counted.long) (took-up n setup state good (fell mid.servers) new.servers fresh prepared.front after held left seats-are fresh-so acting-is refl took fell_so tells);
-              fell = ap stops_with (sym counted.long) ∙ stops-behind made;
+              fell = ap stops_with (sym counted.long) ∙ behind-is made;
               some = counted.some;
               spent = spent-start (total made + kept_calls (device_by setup fell_so) state) (length made) 0 held took.start left took.started counted.spent;
             }

@@ -110,7 +110,7 @@ done-dealt setup past entry held left spent armed = record {
   armed = (held.tally.armed, refl, armed);
 }
 
-behind-is : (made : List ℕ) → stops_with (length made) ≡ fell_behind made
+pub behind-is : (made : List ℕ) → stops_with (length made) ≡ fell_behind made
 behind-is [] = refl
 behind-is (one ∷ made) = refl
 

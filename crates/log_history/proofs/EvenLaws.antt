@@ -2,12 +2,10 @@
 use Rattle.std.proofs.Common.{◌≡◌, ℕ, zero, suc, ◌+◌, ◌-◌, ◌*◌, ◌/◌, ◌%◌, ◌<◌, ◌≤◌, ◌⊎◌, inl, inr, Bool, true, false, nat_le, cond, ◌∷◌, length, refl, sym, ap, subst, ◌∙◌, arith}
 use Rattle.std.specs.Prelude.{replicate}
 use Rattle.std.proofs.lemmas.Bool.{cases_lt, leb-true, leb-false}
-use Rattle.std.proofs.lemmas.Nat.{div-mul-add, div-add-mod', le-div}
+use Rattle.std.proofs.lemmas.Nat.{div-add-mod', le-div}
 use Rattle.std.proofs.Math.Nat.{mul-le-mul_right}
 use Rattle.log_history.specs.Rounds.{rounds_on, rounds, RoundsBeginEvenly}
-
-quotient : (n q k m : ℕ) → k < n → m ≡ q * n + k → m / n ≡ q
-quotient n q k m small is = ap (λ v. v / n) is ∙ div-mul-add q n k small
+use Rattle.stream_layout.proofs.Rounds.{quotient}
 
 -- one n more
 one-more : (n m : ℕ) → 0 < n → (n + m) / n ≡ m / n + 1

@@ -10,7 +10,7 @@ use Rattle.script_language.proofs.Judging.{spelling_rule}
 use Rattle.script_language.proofs.LineWriting.{line_written}
 
 -- a text without LF and the LF behind it are one line
-raw_lines-line : (text rest : List ℕ) → one_line text ≡ true → raw_lines (text ++ 10 ∷ rest) ≡ text ∷ raw_lines rest
+pub raw_lines-line : (text rest : List ℕ) → one_line text ≡ true → raw_lines (text ++ 10 ∷ rest) ≡ text ∷ raw_lines rest
 raw_lines-line [] rest h = refl
 raw_lines-line (b ∷ text) rest h =
     let parts = and_parts (not (b == 10)) (one_line text) h in

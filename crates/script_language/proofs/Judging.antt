@@ -50,11 +50,11 @@ all_show-shown (start ∷ starts) raw h p =
 spelled_shown : (one : Line) (raw : List ℕ) → Spells one raw → is_skipped raw ≡ false
 spelled_shown one raw h = all_show-shown line_starts raw refl (spelling_rule.first raw one h)
 
-skipped-true : (raw : List ℕ) → IsSkipped raw → is_skipped raw ≡ true
+pub skipped-true : (raw : List ℕ) → IsSkipped raw → is_skipped raw ≡ true
 skipped-true [] h = refl
 skipped-true (b ∷ raw) h = (Decides-eqb b 35).1 h
 
-true-skipped : (raw : List ℕ) → is_skipped raw ≡ true → IsSkipped raw
+pub true-skipped : (raw : List ℕ) → is_skipped raw ≡ true → IsSkipped raw
 true-skipped [] h = tt
 true-skipped (b ∷ raw) h = (Decides-eqb b 35).0 h
 

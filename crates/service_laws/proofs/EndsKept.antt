@@ -111,7 +111,7 @@ ends-back low k (Ended b c ∷ events) before closed late rise (inr there) left 
       | inr at_to ↦ inr (sym (renamed-beside left (from_name b) (to_name b c) (to_name before closed) not_from not_to) ∙ at_to)
     ]
 
-whole-attempt : (calls : List DeviceCall) (old : Files) → Attempt service_disk calls old (all_applied calls old)
+pub whole-attempt : (calls : List DeviceCall) (old : Files) → Attempt service_disk calls old (all_applied calls old)
 whole-attempt [] old = refl
 whole-attempt (call ∷ calls) old = inr (inr (whole-attempt calls (applied call old)))
 

@@ -97,7 +97,7 @@ same-queues capacity past [] = refl
 same-queues capacity past (sub ∷ lasting) = ap (λ rest. kept_of capacity past sub ∷ rest) (same-queues capacity past lasting)
 
 -- a history's table is told by its value
-history-back : (setup : Setup) (entries : List Entry) → table_of_saved (saved_table (service_of setup entries)) ≡ service_of setup entries
+pub history-back : (setup : Setup) (entries : List Entry) → table_of_saved (saved_table (service_of setup entries)) ≡ service_of setup entries
 unfolding service_of
 history-back setup entries =
     let past = past_of setup entries in

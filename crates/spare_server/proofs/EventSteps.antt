@@ -28,6 +28,7 @@ use Rattle.group_servers.specs.GroupCounts.{CountsLine, FellIn}
 use Rattle.group_servers.specs.GroupUses.{lacks-alike}
 use Rattle.played_runs.specs.Games.{Broken, BreaksOn, DoesEvent, EndsEvent, FaultLeaves, HasState, Lacks}
 use Rattle.played_runs.specs.Views.{counters_of}
+use Rattle.played_runs.proofs.GoingSteps.{told-same}
 use Rattle.spare_server.specs.declared.world.TrioWorld.{TrioWorld}
 use Rattle.spare_server.specs.Ended.{TrioEnded}
 use Rattle.spare_server.specs.Game.{trio_game}
@@ -63,11 +64,6 @@ files-told : (held : Option Files) (files : Files) → IfSome held (λ one. one 
 files-told None files told = refl
 files-told (Some one) files told = ap Some told
 
--- and so are those that it tells then
-left-told : (held left : Option Files) (files : Files) → left ≡ option_map (λ _. files) held → IfSome left (λ one. one ≡ files)
-left-told None left files is = subst (λ (l : Option Files). IfSome l (λ one. one ≡ files)) (sym is) tt
-left-told (Some one) left files is = subst (λ (l : Option Files). IfSome l (λ one. one ≡ files)) (sym is) refl
-
 -- **what a line led the parts to it led the world to**
 pub does-event : (next : TrioLine) (old new : TrioWorld) (before after lines : List (List ℕ)) (held left : DiskSeen) → before ≡ [] → lines ≡ after → PlaysWhole next old new before after held left → (DoesEvent trio_game) next lines old new held left
 does-event next old new before after lines held left none same whole setup state good shows armed tells =
@@ -99,7 +95,7 @@ follows-event next old new before after held left whole setup state good shows a
     let done = whole.2 setup state good (parts-show setup state old good shows) armed tells in
     let now = done.outcome.state in
     let stands = whole-shows setup now parts new whole.1 done.is.1 done.is.0 in
-    (now, done.is.1, stands, all-follow setup now left.files new done.is.1 stands (left-told held.files left.files (files_of setup now.world.core.answered) done.files))
+    (now, done.is.1, stands, all-follow setup now left.files new done.is.1 stands (told-same held.files left.files (files_of setup now.world.core.answered) done.files))
 
 -- **what a line left the parts as it left the world as**
 

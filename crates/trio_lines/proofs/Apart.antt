@@ -1,14 +1,13 @@
 -- Each line is read in one way: skipped lines, own lines of three servers and lines that two servers have are apart.
-use Rattle.std.proofs.Common.{◌≡◌, ℕ, true, false, List, [], ◌∷◌, ◌++◌, Option, Some, None, refl, sym, ap, ◌∙◌, inl, inr}
+use Rattle.std.proofs.Common.{◌≡◌, ℕ, false, List, [], ◌∷◌, ◌++◌, Option, Some, None, refl, sym, ap, ◌∙◌, inl, inr}
 use Rattle.std.specs.Prelude.{codes, filter_map, is_some}
 use Rattle.std.specs.Option.{option_map_or}
-use Rattle.std.proofs.lemmas.Bool.Decides.{Decides-eqb}
 use Rattle.script_lines.specs.declared.line.Line.{Line}
 use Rattle.script_language.specs.Lines.{Spells}
 use Rattle.script_language.specs.Scripts.{IsSkipped}
 use Rattle.script_language.specs.ValueReading.{server_at}
 use Rattle.script_language.specs.ControlReading.{crash_at, arm_at, restart_at}
-use Rattle.script_language.specs.ScriptReading.{line_at, is_skipped}
+use Rattle.script_language.specs.ScriptReading.{line_at}
 use Rattle.script_language.proofs.Judging.{spelling_rule}
 use Rattle.trio_lines.specs.declared.line.TrioLine.{TrioLine}
 use Rattle.trio_lines.specs.declared.line.TrioLine.TheVariants.{Plain}
@@ -17,14 +16,6 @@ use Rattle.trio_lines.specs.LineReading.{own_line_at}
 use Rattle.trio_lines.specs.Scripts.{SpellTrios}
 use Rattle.trio_lines.specs.Scripts.SpellTrios.{done, skipped, spelled}
 use Rattle.trio_lines.proofs.OwnRules.{own_rule}
-
-pub skipped-true : (raw : List ℕ) → IsSkipped raw → is_skipped raw ≡ true
-skipped-true [] h = refl
-skipped-true (b ∷ raw) h = (Decides-eqb b 35).1 h
-
-pub true-skipped : (raw : List ℕ) → is_skipped raw ≡ true → IsSkipped raw
-true-skipped [] h = tt
-true-skipped (b ∷ raw) h = (Decides-eqb b 35).0 h
 
 -- an own line is no line of two servers
 pub own-no_line : (line : TrioLine) (raw : List ℕ) → SpellsOwn line raw → line_at raw ≡ None

@@ -3,12 +3,13 @@ use Rattle.std.proofs.Common.{◌≡◌, ◌⊎◌, ℕ, ◌+◌, true, false, L
 use Rattle.script_language.specs.Scripts.{IsSkipped, SpellAll}
 use Rattle.script_language.specs.Scripts.SpellAll.{done, skipped}
 use Rattle.script_language.specs.ScriptReading.{is_skipped}
+use Rattle.script_language.proofs.Judging.{skipped-true, true-skipped}
 use Rattle.trio_lines.specs.declared.line.TrioLine.{TrioLine}
 use Rattle.trio_lines.specs.Lines.{SpellsOwn}
 use Rattle.trio_lines.specs.LineReading.{own_line_at}
 use Rattle.trio_lines.specs.Weaving.{BeginsOwn}
 use Rattle.trio_lines.proofs.OwnRules.{own_rule}
-use Rattle.trio_lines.proofs.Apart.{skipped-true, true-skipped, unread-no_own, skipped-not_own}
+use Rattle.trio_lines.proofs.Apart.{unread-no_own, skipped-not_own}
 use Rattle.trio_lines.proofs.Masked.{same_head, same_tail, skipped-parts}
 
 -- the first line is an own one, or it is skipped and one of the others is the first that is shown

@@ -7,13 +7,14 @@ use Rattle.script_language.specs.Lines.{Spells}
 use Rattle.script_language.specs.Scripts.{raw_lines, IsSkipped, SpellAll}
 use Rattle.script_language.specs.Scripts.SpellAll.{done, skipped}
 use Rattle.script_language.specs.ScriptReading.{is_skipped, judged}
+use Rattle.script_language.proofs.Judging.{true-skipped}
 use Rattle.trio_lines.specs.declared.line.TrioLine.{TrioLine}
 use Rattle.trio_lines.specs.LineReading.{own_line_at}
 use Rattle.trio_lines.specs.Scripts.{IsCluster, AreUnbegun, IsEarly, IsFault, IsBadTrioAt}
 use Rattle.trio_lines.specs.Scripts.IsFault.{shared, early}
 use Rattle.trio_lines.specs.Weaving.{BeginsOwn}
 use Rattle.trio_lines.proofs.OwnRules.{own_rule}
-use Rattle.trio_lines.proofs.Apart.{true-skipped, skipped-unspelled, skipped-not_own}
+use Rattle.trio_lines.proofs.Apart.{skipped-unspelled, skipped-not_own}
 use Rattle.trio_lines.proofs.Masked.{same_head, same_tail, mask, judged_masked, bad-judged, bad-place, skipped-parts, judged-past, judged-past_own, judged-first}
 
 -- the first line that is shown

@@ -11,13 +11,13 @@ use Rattle.script_language.specs.Lines.{Spells}
 use Rattle.script_language.specs.Scripts.{raw_lines, IsSkipped, SpellAll, misplaced, IsScriptOf, IsBadLine, LacksCluster, IsBadAt}
 use Rattle.script_language.specs.Scripts.SpellAll.{skipped}
 use Rattle.script_language.specs.ScriptReading.{line_at, is_skipped, judged}
-use Rattle.script_language.proofs.Judging.{spelling_rule, judged_skips, judged_formless, judged_misplaced, judged-complete, bad-complete, judged-sound}
+use Rattle.script_language.proofs.Judging.{spelling_rule, judged_skips, judged_formless, judged_misplaced, judged-complete, bad-complete, judged-sound, skipped-true}
 use Rattle.trio_lines.specs.declared.line.TrioLine.{TrioLine}
 use Rattle.trio_lines.specs.LineReading.{own_line_at}
 use Rattle.trio_lines.specs.Scripts.{Masks, AreMasked, IsCluster}
 use Rattle.trio_lines.specs.Scripts.Masks.{own, other}
 use Rattle.trio_lines.proofs.OwnRules.{own_rule}
-use Rattle.trio_lines.proofs.Apart.{skipped-true, skipped-no_own, no_own-read}
+use Rattle.trio_lines.proofs.Apart.{skipped-no_own, no_own-read}
 
 pub same_head : {A : Type 0} {x y : A} {xs ys : List A} → x ∷ xs ≡ y ∷ ys → x ≡ y
 same_head h = cc

@@ -1,10 +1,11 @@
 -- The text in which `#` stands in the place of own lines.
-use Rattle.std.proofs.Common.{◌≡◌, ℕ, suc, ◌+◌, ◌≤◌, Bool, true, false, not, cond, ◌==◌, List, [], ◌∷◌, ◌++◌, length, Some, refl, sym, ap, subst, ◌∙◌, arith, append_assoc, length-append, le_refl}
+use Rattle.std.proofs.Common.{◌≡◌, ℕ, suc, ◌+◌, ◌≤◌, Bool, true, false, cond, ◌==◌, List, [], ◌∷◌, ◌++◌, length, Some, refl, sym, ap, subst, ◌∙◌, arith, append_assoc, length-append, le_refl}
 use Rattle.std.specs.Prelude.{codes, is_some}
 use Rattle.std.specs.List.{AllZip, list_all}
-use Rattle.std.proofs.lemmas.Bool.{not-true, and_parts}
+use Rattle.std.proofs.lemmas.Bool.{and_parts}
 use Rattle.std.proofs.lemmas.Option.{none-some}
 use Rattle.script_language.specs.Scripts.{raw_lines, with_first}
+use Rattle.script_language.proofs.Again.{raw_lines-line}
 use Rattle.script_grammar.proofs.Rules.{one_line}
 use Rattle.trio_lines.specs.declared.line.TrioLine.{TrioLine}
 use Rattle.trio_lines.specs.Scripts.{Masks, AreMasked}
@@ -14,13 +15,6 @@ use Rattle.trio_lines.specs.Weaving.{PutsMasked}
 use Rattle.trio_lines.proofs.OwnRules.{own_rule}
 use Rattle.trio_lines.proofs.Apart.{unread-no_own, none_of}
 use Rattle.ais_values.proofs.Basics.{some_of}
-
--- a text without LF and the LF behind it are one line
-line-alone : (text rest : List ℕ) → one_line text ≡ true → raw_lines (text ++ 10 ∷ rest) ≡ text ∷ raw_lines rest
-line-alone [] rest h = refl
-line-alone (b ∷ text) rest h =
-    let parts = and_parts (not (b == 10)) (one_line text) h in
-    rw (not-true (b == 10) parts.0, line-alone text rest parts.1) refl
 
 first-clean : (byte : ℕ) (raws : List (List ℕ)) → (byte == 10) ≡ false → list_all one_line raws ≡ true → list_all one_line (with_first byte raws) ≡ true
 first-clean byte [] off h = rw off refl
@@ -53,7 +47,7 @@ masked-more all rest after raw before out is puts so_far tail masks =
     let clean = masks-clean puts.masks (line-clean rest raw (raw_lines after) is) in
     let here : AllZip Masks (raw_lines rest) (raw_lines (puts.masked ++ 10 ∷ tail)) =
     subst (λ these. AllZip Masks these (raw_lines (puts.masked ++ 10 ∷ tail))) (sym is)
-    (subst (λ these. AllZip Masks (raw ∷ raw_lines after) these) (sym (line-alone puts.masked tail clean)) (puts.masks, masks)) in
+    (subst (λ these. AllZip Masks (raw ∷ raw_lines after) these) (sym (raw_lines-line puts.masked tail clean)) (puts.masks, masks)) in
     let same : out ++ tail ≡ before ++ (puts.masked ++ 10 ∷ tail) =
     ap (λ x. x ++ tail) puts.is ∙ append_assoc before (puts.masked ++ 10 ∷ []) tail ∙ ap (λ x. before ++ x) (append_assoc puts.masked (10 ∷ []) tail) in
     subst (AreMasked all) (sym same) (so_far (puts.masked ++ 10 ∷ tail) here)

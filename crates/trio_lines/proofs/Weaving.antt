@@ -9,6 +9,7 @@ use Rattle.script_language.specs.Lines.{Spells}
 use Rattle.script_language.specs.Scripts.{IsSkipped, SpellAll}
 use Rattle.script_language.specs.Scripts.SpellAll.{done, skipped, spelled}
 use Rattle.script_language.specs.ScriptReading.{is_skipped}
+use Rattle.script_language.proofs.Judging.{skipped-true, true-skipped}
 use Rattle.trio_lines.specs.declared.line.TrioLine.{TrioLine}
 use Rattle.trio_lines.specs.declared.line.TrioLine.TheVariants.{Plain}
 use Rattle.trio_lines.specs.LineReading.{own_line_at}
@@ -16,7 +17,7 @@ use Rattle.trio_lines.specs.Scripts.{shared_lines, Masks}
 use Rattle.trio_lines.specs.Scripts.SpellTrios.{done as trio_done, skipped as trio_skipped, spelled as trio_spelled}
 use Rattle.trio_lines.specs.Weaving.{Fits, IsWoven, Weaves}
 use Rattle.trio_lines.proofs.OwnRules.{own_rule}
-use Rattle.trio_lines.proofs.Apart.{true-skipped, skipped-true, skipped-unspelled, skipped-no_own, own-unshared}
+use Rattle.trio_lines.proofs.Apart.{skipped-unspelled, skipped-no_own, own-unshared}
 use Rattle.trio_lines.proofs.Masked.{same_head, same_tail, mask, mask-own, mask-other, masks-mask}
 
 -- a skipped line spells none of the lines
