@@ -1,3 +1,4 @@
+pub mod Bounds
 pub mod Causes
 pub mod Codes
 pub mod Events

@@ -1,5 +1,6 @@
 -- Words of public clauses: what the entries of a run are beside their order: clients, times and their count lie within bounds.
 use Rattle.std.specs.Prelude.{ℕ, ◌≤◌, ◌<◌, pos, ◌≤ℤ◌, List, [], ◌∷◌, length}
+use Rattle.ais_values.specs.Bounds.{last_moment, most_entries}
 use Rattle.cluster_facts.specs.Types.{Entry, Called, Receipted}
 use Rattle.cluster_facts.specs.History.{time_of}
 
@@ -12,8 +13,8 @@ pub record CanCome (entry : Entry) (past : List Entry) : Type 0 where
   pub from : 1 ≤ client_of entry
   pub to : client_of entry ≤ 4096
   pub early : pos 0 ≤ℤ time_of entry
-  pub late : time_of entry ≤ℤ pos 9000000000000000000
-  pub few : length past < 4000000000
+  pub late : time_of entry ≤ℤ pos last_moment
+  pub few : length past < most_entries
 
 abbrev pub AreInRange : List Entry → Type 0
 AreInRange [] = Unit {0}

@@ -5,6 +5,7 @@ use Rattle.std.specs.Option.{ForSome}
 use Rattle.ais_values.specs.declared.status.Status.TheVariants as status
 use Rattle.ais_values.specs.declared.kind.StreamKind.{StreamKind}
 use Rattle.ais_values.specs.declared.kind.StreamKind.TheVariants.{Alarm}
+use Rattle.ais_values.specs.Bounds.{last_moment}
 use Rattle.client_set.specs.Rising.{IsRising}
 use Rattle.format_expr.specs.Language.{is_notified}
 use Rattle.stream_config.specs.Attributes.{kind_of, PassesAttrs}
@@ -36,7 +37,7 @@ pub record KeptLog : Type 0 where
 pub record IsCallTime (kept : LogTable) (now : ℤ) : Type 0 where
   pub last : kept.last ≤ 19999999000
   pub from : pos 0 ≤ℤ now
-  pub to : now ≤ℤ pos 9000000000000000000
+  pub to : now ≤ℤ pos last_moment
 
 -- fewer than 4,294,967,294 records of the stream were numbered
 abbrev pub HasNumberLeft : LogTable → StreamName → Type 0

@@ -1,5 +1,6 @@
 -- Words of public clauses: what is seen of a server, and what it is as the active server of a history, at rest and with an entry in hand.
 use Rattle.std.specs.Prelude.{◌≡◌, ℕ, ◌<◌, ◌⊎◌, List, [], ◌∷◌, Option, Some, None, option_map}
+use Rattle.ais_values.specs.Bounds.{most_entries}
 use Rattle.calls.specs.declared.entry.Entry.{Entry}
 use Rattle.calls.specs.declared.entry.Entry.TheVariants.{Called, Receipted}
 use Rattle.calls.specs.declared.saved.Saved.{Saved}
@@ -63,4 +64,4 @@ number_in_hand server = number_in server.owed (number_of server)
 -- the service can take a further entry: fewer than 4,000,000,000 were accepted
 abbrev pub HasRoom : Option Saved → Type 0
 HasRoom None = Unit {0}
-HasRoom (Some saved) = saved.number < 4000000000
+HasRoom (Some saved) = saved.number < most_entries

@@ -5,6 +5,7 @@ use Rattle.std.specs.List.{AllByRecursion}
 use Rattle.client_set.specs.Members.{has}
 use Rattle.client_set.specs.Rising.{IsRising}
 use Rattle.ais_values.specs.Codes.{all_differ}
+use Rattle.ais_values.specs.Bounds.{most_entries}
 use Rattle.format_expr.specs.Language.{is_notified}
 use Rattle.stream_config.specs.declared.attrs.StreamName.{StreamName}
 use Rattle.stream_config.specs.declared.attrs.StreamName.TheVariants as name
@@ -43,7 +44,7 @@ IsAmong clients client = has client clients ≡ true
 
 -- at most 4,000,000,000 entries were accepted, and no more ids were given
 pub record HasFitCounts (saved : Saved) : Type 0 where
-  pub entries : saved.number ≤ 4000000000
+  pub entries : saved.number ≤ most_entries
   pub ids : saved.last_id ≤ saved.number
   pub capacity : IsCapacity saved.capacity
 

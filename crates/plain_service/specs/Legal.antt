@@ -1,5 +1,6 @@
 -- Words of public clauses: which entries can follow a history, and which lists of entries are histories.
 use Rattle.std.specs.Prelude.{◌≡◌, ℕ, ◌<◌, ◌≤◌, ℤ, true, List, [], ◌∷◌, length}
+use Rattle.ais_values.specs.Bounds.{most_entries}
 use Rattle.calls.specs.declared.entry.Entry.{Entry}
 use Rattle.calls.specs.declared.entry.Entry.TheVariants.{Called, Receipted}
 use Rattle.plain_service.specs.Setups.{Setup, IsMoment, CanBegin}
@@ -15,7 +16,7 @@ pub record IsClient (client : ℕ) : Type 0 where
 pub record CanAccept (client : ℕ) (now : ℤ) (past : List Entry) : Type 0 where
   pub caller : IsClient client
   pub time : IsMoment now
-  pub few : length past < 4000000000
+  pub few : length past < most_entries
 
 -- a call can follow where it has the number of its client's next one, and a receipt where it is new
 abbrev pub CanFollow : Setup → Entry → List Entry → Type 0

@@ -1,5 +1,6 @@
 -- Words of public clauses: what the service begins with.
 use Rattle.std.specs.Prelude.{ℕ, ℤ, pos, ◌≤ℤ◌}
+use Rattle.ais_values.specs.Bounds.{last_moment}
 use Rattle.stream_config.specs.declared.attrs.StreamAttrs.{StreamAttrs}
 use Rattle.sub_queue.specs.Queue.{IsCapacity}
 use Rattle.log_history.specs.Chronicle.{LogSetup}
@@ -25,7 +26,7 @@ log_setup setup = record {
 -- a time at which the service can start, and an entry be accepted, in nanoseconds since 1970
 pub record IsMoment (time : ℤ) : Type 0 where
   pub from : pos 0 ≤ℤ time
-  pub to : time ≤ℤ pos 9000000000000000000
+  pub to : time ≤ℤ pos last_moment
 
 -- what a service can begin with
 pub record CanBegin (setup : Setup) : Type 0 where

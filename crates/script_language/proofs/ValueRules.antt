@@ -2,9 +2,10 @@
 use Rattle.std.proofs.Common.{◌≡◌, ◌≤◌, ◌-◌, ◌^◌, ℕ, true, ◌&&◌, List, [], ◌∷◌, ◌++◌, length, Some, refl, ap, subst, arith, not, ◌==◌}
 use Rattle.std.specs.Prelude.{pos, neg_ℤ, codes, nat_le, nat_lt}
 use Rattle.ais_values.specs.Names.{IsName, IsPrintable}
+use Rattle.ais_values.specs.Bounds.{last_moment}
 use Rattle.ntf_types.specs.declared.value.Value.TheVariants.{Int, NameOf, TextOf, Binary}
 use Rattle.script_lines.specs.declared.line.Server.TheVariants.{A, B}
-use Rattle.script_language.specs.Values.{IsNumber8, IsNumber16, IsNumber32, IsNumber64, IsSigned64, IsScriptTime, IsClient, IsQueueLength, IsCount, server_forms, IsServer, IsVersion, IsClass, value_forms, IsValue, IsPair, IsChange, IsStateChange, last_time, version_of, class_of, pair_of, change_of, state_change_of, IsQuotedName, IsRelease}
+use Rattle.script_language.specs.Values.{IsNumber8, IsNumber16, IsNumber32, IsNumber64, IsSigned64, IsScriptTime, IsClient, IsQueueLength, IsCount, server_forms, IsServer, IsVersion, IsClass, value_forms, IsValue, IsPair, IsChange, IsStateChange, version_of, class_of, pair_of, change_of, state_change_of, IsQuotedName, IsRelease}
 use Rattle.script_language.specs.ValueReading.{number8_at, number16_at, number32_at, number64_at, signed64_at, script_time_at, client_at, queue_length_at, count_at, server_readers, server_at, version_at, class_at, value_readers, value_at, pair_at, change_at, state_change_at, quoted_name_at, release_at, is_name, is_printable}
 use Rattle.script_grammar.specs.ValueReading.{number_at, hex_word_at, quoted_at}
 use Rattle.script_grammar.specs.Values.{IsNumber, IsQuoted, IsHexWord}
@@ -48,7 +49,7 @@ pub signed64_rule : Rule signed64_at IsSigned64 separators anything
 signed64_rule = plain_rule (signed_rule (neg_ℤ (pos (2 ^ 63))) (pos (2 ^ 63 - 1)) (omega arith) (omega arith)) refl
 
 pub script_time_rule : Rule script_time_at IsScriptTime separators anything
-script_time_rule = plain_rule (signed_rule (pos 0) (pos last_time) (omega arith) (omega arith)) refl
+script_time_rule = plain_rule (signed_rule (pos 0) (pos last_moment) (omega arith) (omega arith)) refl
 
 pub hex_word_rule : Rule hex_word_at IsHexWord separators anything
 hex_word_rule = plain_rule words.hex_word_rule refl

@@ -2,6 +2,7 @@
 use Rattle.std.specs.Prelude.{ℕ, ◌-◌, ◌^◌, ℤ, pos, neg_ℤ, Option, Some, None, List, [], ◌∷◌, codes, Bool, ◌&&◌, nat_le, length, if◌then◌else◌}
 use Rattle.ais_values.specs.declared.kind.Version.{Version}
 use Rattle.ais_values.specs.declared.kind.ClassId.{ClassId}
+use Rattle.ais_values.specs.Bounds.{last_moment}
 use Rattle.ntf_types.specs.declared.value.Value.{Value}
 use Rattle.ntf_types.specs.declared.value.Value.TheVariants.{Int, NameOf, TextOf, Binary}
 use Rattle.ntf_types.specs.declared.value.Pair.{Pair}
@@ -11,7 +12,7 @@ use Rattle.script_lines.specs.declared.line.Server.{Server}
 use Rattle.script_lines.specs.declared.line.Server.TheVariants.{A, B}
 use Rattle.script_grammar.specs.Reading.{known, word, part, one_of, such, maybe}
 use Rattle.script_grammar.specs.ValueReading.{number_at, signed_at, quoted_at}
-use Rattle.script_language.specs.Values.{last_time, version_of, class_of, pair_of, change_of, state_change_of}
+use Rattle.script_language.specs.Values.{version_of, class_of, pair_of, change_of, state_change_of}
 use Rattle.std.specs.List.{list_all}
 
 -- a capital letter
@@ -44,7 +45,7 @@ abbrev pub signed64_at : List ℕ → Option (ℤ × List ℕ)
 signed64_at = signed_at (neg_ℤ (pos (2 ^ 63))) (pos (2 ^ 63 - 1))
 
 abbrev pub script_time_at : List ℕ → Option (ℤ × List ℕ)
-script_time_at = signed_at (pos 0) (pos last_time)
+script_time_at = signed_at (pos 0) (pos last_moment)
 
 abbrev pub client_at : List ℕ → Option (ℕ × List ℕ)
 client_at = number_at 1 4096

@@ -3,6 +3,7 @@ use Rattle.std.specs.Prelude.{◌≡◌, ℕ, ◌-◌, ◌^◌, ◌≤◌, ℤ, 
 use Rattle.ais_values.specs.Names.{IsName}
 use Rattle.ais_values.specs.declared.kind.Version.{Version}
 use Rattle.ais_values.specs.declared.kind.ClassId.{ClassId}
+use Rattle.ais_values.specs.Bounds.{last_moment}
 use Rattle.ntf_types.specs.declared.value.Value.{Value}
 use Rattle.ntf_types.specs.declared.value.Value.TheVariants.{Int, NameOf, TextOf, Binary}
 use Rattle.ntf_types.specs.declared.value.Pair.{Pair}
@@ -30,12 +31,8 @@ IsNumber64 = IsNumber 0 (2 ^ 64 - 1)
 abbrev pub IsSigned64 : ℤ → List ℕ → Type 0
 IsSigned64 = IsSigned (neg_ℤ (pos (2 ^ 63))) (pos (2 ^ 63 - 1))
 
--- the last moment that a script names, in nanoseconds
-abbrev pub last_time : ℕ
-last_time = 9000000000000000000
-
 abbrev pub IsScriptTime : ℤ → List ℕ → Type 0
-IsScriptTime = IsSigned (pos 0) (pos last_time)
+IsScriptTime = IsSigned (pos 0) (pos last_moment)
 
 abbrev pub IsClient : ℕ → List ℕ → Type 0
 IsClient = IsNumber 1 4096

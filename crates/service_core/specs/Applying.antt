@@ -1,6 +1,7 @@
 -- Words of public clauses: which entries can be applied to a value, and what a call's number must be.
 use Rattle.std.specs.Prelude.{◌≡◌, ℕ, ◌<◌, ℤ, ◌==◌, ◌&&◌, nat_le, nat_lt, ◌+◌, Bool, true, false, length, Option, Some, None, find}
 use Rattle.std.specs.Option.{option_map_or}
+use Rattle.ais_values.specs.Bounds.{most_entries}
 use Rattle.calls.specs.declared.entry.Entry.{Entry}
 use Rattle.calls.specs.declared.entry.Entry.TheVariants.{Called, Receipted}
 use Rattle.calls.specs.declared.saved.Saved.{Saved}
@@ -28,7 +29,7 @@ is_new_in saved client key through =
 pub record CanAcceptIn (saved : Saved) (client : ℕ) (now : ℤ) : Type 0 where
   pub caller : IsClient client
   pub time : IsMoment now
-  pub few : saved.number < 4000000000
+  pub few : saved.number < most_entries
 
 -- a call has the number of its client's next one, and a receipt is new
 abbrev pub CanApply : Entry → Saved → Type 0

@@ -1,6 +1,7 @@
 -- Words of bodies alone: what the calls of the parts ask of what is kept.
 use Rattle.std.specs.Prelude.{ℕ, ◌<◌, ℤ}
 use Rattle.std.specs.List.{AllByRecursion}
+use Rattle.ais_values.specs.Bounds.{most_entries}
 use Rattle.log_history.specs.Table.{LogTable}
 use Rattle.ntf_service.specs.State.{CanSendMore, IsKeyAbove}
 use Rattle.plain_service.specs.Setups.{IsMoment}
@@ -10,7 +11,7 @@ use Rattle.service_fit.specs.Fit.{alarm_count, IsFitLog, WasStored}
 -- a call of the log can come at a moment, after fewer than 4,000,000,000 entries
 pub record CanCallLog (kept : LogTable) (now : ℤ) : Type 0 where
   pub number : ℕ
-  pub few : number < 4000000000
+  pub few : number < most_entries
   pub fit : IsFitLog number kept
   pub moment : IsMoment now
 

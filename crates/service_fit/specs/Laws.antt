@@ -1,5 +1,6 @@
 -- Words of public clauses: what an entry finds that leaves a fit value.
 use Rattle.std.specs.Prelude.{◌≡◌, ℕ, ◌<◌, ℤ}
+use Rattle.ais_values.specs.Bounds.{most_entries}
 use Rattle.ntf_history.specs.Tables.{HaveQueues}
 use Rattle.plain_service.specs.Setups.{IsMoment}
 use Rattle.plain_service.specs.Fitness.{IsFit}
@@ -11,7 +12,7 @@ use Rattle.service_table.specs.Steps.{window_for}
 pub record CanGoOn (kept : ServiceTable) : Type 0 where
   pub queues : HaveQueues kept.ntf.capacity kept.ntf.subs
   pub fit : IsFit (saved_table kept)
-  pub few : kept.number < 4000000000
+  pub few : kept.number < most_entries
 
 -- a client's next call can come at a moment
 pub record CanComeNext (kept : ServiceTable) (client seq : ℕ) (now : ℤ) : Type 0 where

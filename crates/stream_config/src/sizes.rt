@@ -1,5 +1,6 @@
 //! How many records a file holds, and the stamps of files.
 ghost use Rattle.std.specs.Prelude.{◌≡◌, ◌≤ℤ◌, pos, unsigned_abs, ◌≤◌, ◌<◌};
+ghost use Rattle.ais_values.specs.Bounds.{last_moment};
 ghost use Rattle.stream_config.specs.Attributes.{IsSized};
 ghost use Rattle.stream_config.specs.Sizes.{records_per_file};
 ghost use Rattle.stream_config.specs.Stamps.{next_stamp};
@@ -27,7 +28,7 @@ pub fn stamp(last: i64, time: i64) -> i64
     requires last_from { pos 0 ≤ℤ last }
     requires last_to { last ≤ℤ pos 20000000000 }
     requires time_from { pos 0 ≤ℤ time }
-    requires time_to { time ≤ℤ pos 9000000000000000000 }
+    requires time_to { time ≤ℤ pos last_moment }
     ensures { result ≡ pos (next_stamp (unsigned_abs last) (unsigned_abs time)) }
 {
     (last + 1).max(time / NANOSECONDS_PER_SECOND)
