@@ -13,13 +13,19 @@ use crate::streams;
 use ais_values::{LAST_TIME, Name, Status, StreamKind, Text};
 use stream_config::{Mark, StreamName, StreamState};
 
+/// The greatest last stamp behind which there is room for those of a call.
+const MAX_LAST_STAMP: i64 = 19_999_999_000;
+
+/// How many records of a stream are numbered at the most.
+const MAX_NUMBERED: u32 = 4_294_967_294;
+
 impl LogState {
     /// Whether a call can come at this time: it lies from 0 to 9,000,000,000,000,000,000, and the last stamp is
     /// at most 19,999,999,000.
     pub fn is_call_time(&self, now: i64) -> bool
         ensures { IsTrue result ↔ IsCallTime self.now.table now }
     {
-        self.last <= 19_999_999_000 && now >= 0 && now <= LAST_TIME
+        self.last <= MAX_LAST_STAMP && now >= 0 && now <= LAST_TIME
     }
 
     /// Whether a number is left for the next record of the stream of this name, if there is one: fewer than
@@ -28,7 +34,7 @@ impl LogState {
         ensures { IsTrue result ↔ HasNumberLeft self.now.table name.now }
     {
         match streams::stream_of(self.streams.as_slice(), name) {
-            Some(stream) => stream.state().taken < 4_294_967_294,
+            Some(stream) => stream.state().taken < MAX_NUMBERED,
             None => true,
         }
     }
