@@ -61,7 +61,7 @@ impl WaitingCallbacks {
     pub fn lacks_place(&self, wanted: bool) -> bool
         ensures { result ≡ (wanted && nat_le self.now.places (length self.now.queue)) }
     {
-        if wanted { self.is_full() } else { false }
+        wanted && self.is_full()
     }
 
     /// Whether any reply to a call lacks a place, whatever mark it tells.
