@@ -39,7 +39,7 @@ fn give_back<L>(lines: &mut Vec<L>)
 
 // Takes the last of some lines, if there is one.
 fn take_last<L>(lines: &mut Vec<L>) -> Option<L>
-    ensures { MatchOption result (reverse lines.old.items ≡ [])
+    ensures { MatchOption result ((reverse lines.old.items ≡ []) × (reverse lines.new.items ≡ []))
         (λ line. reverse lines.old.items ≡ line ∷ reverse lines.new.items) }
 {
     let line = lines.pop();
@@ -57,9 +57,10 @@ impl<L> LinesLeft<L> {
         LinesLeft { lines: turned }
     }
 
-    /// Takes the next line; none exactly where none is left. It takes no memory.
+    /// Takes the next line; none exactly where none is left, which stays so. It takes no memory.
     pub fn take_next(&mut self) -> Option<L>
-        ensures { MatchOption result (self.old ≡ []) (λ line. self.old ≡ line ∷ self.new) }
+        ensures { MatchOption result ((self.old ≡ []) × (self.new ≡ []))
+            (λ line. self.old ≡ line ∷ self.new) }
     {
         take_last(&mut self.lines)
     }

@@ -54,7 +54,7 @@ returns-in-Ok-Some g c =
 
 -- a script that can be played has a line
 pub returns-in-None : goal.returns-in-None
-returns-in-None g c = absurd (subst IsPlayableCold c.in-None.ensures c.requires.script)
+returns-in-None g c = absurd (subst IsPlayableCold c.in-None.ensures.0 c.requires.script)
 
 pub returns-in-Err-Memory : goal.returns-in-Err-Memory
 returns-in-Err-Memory g c =

@@ -60,4 +60,4 @@ returns g c =
     let events = c.args.events.now in
     let start = both (g.D.SharedDisk.seen c.args.disk.now) (g.J.SharedDisk.seen c.args.journal.now) in
     let left = both (g.D.SharedDisk.seen c.loop-line.disk) (g.J.SharedDisk.seen c.loop-line.journal) in
-    plays-done g.K.Sink.written g.K.Sink.faults events start c.args.world.now c.args.out.now left c.loop-line.world c.loop-line.out c.loop-line.events c.in_default.ensures c.loop-line.invariant.stands c.loop-line.invariant.plays
+    plays-done g.K.Sink.written g.K.Sink.faults events start c.args.world.now c.args.out.now left c.loop-line.world c.loop-line.out c.loop-line.events c.in_default.ensures.0 c.loop-line.invariant.stands c.loop-line.invariant.plays

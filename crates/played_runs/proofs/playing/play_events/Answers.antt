@@ -73,7 +73,7 @@ pub returns : goal.returns
 returns g c setup places held begun =
     let left = g.D.SharedDisk.seen c.loop-line.disk in
     let disk : ℕ × ℕ = ((g.D.SharedDisk.seen c.args.disk.now).faults, (g.D.SharedDisk.seen c.loop-line.disk).faults) in
-    behind-last g.W.Playable.game g.W.Playable.plays setup places held (counters_of (g.D.SharedDisk.seen c.args.disk.now)) g.K.Sink.written g.K.Sink.faults c.args.out.now c.loop-line.out left disk (StoodUpTo g.D.SharedDisk.seen) c.loop-line.world c.args.events.now c.loop-line.events c.in_default.ensures c.loop-line.invariant.sink c.loop-line.invariant.disk (c.loop-line.invariant.behind setup places held begun)
+    behind-last g.W.Playable.game g.W.Playable.plays setup places held (counters_of (g.D.SharedDisk.seen c.args.disk.now)) g.K.Sink.written g.K.Sink.faults c.args.out.now c.loop-line.out left disk (StoodUpTo g.D.SharedDisk.seen) c.loop-line.world c.args.events.now c.loop-line.events c.in_default.ensures.0 c.loop-line.invariant.sink c.loop-line.invariant.disk (c.loop-line.invariant.behind setup places held begun)
 
 pub play_one-requires-clause-can : goal.play_one-requires-clause-can
 play_one-requires-clause-can g c =
