@@ -66,10 +66,10 @@ join-comes true old servers history before after held left up some joins over ca
     joins-advance setup state old servers history before after held left good shows count (up setup state good shows) joins over (stands-done true held.journal left.journal cause stop)
 join-comes false old servers history before after held left up some joins over cause stop = absurd (some joins.0)
 
-pub join-off : (answer : DiskAnswer) (old : Cluster Solo) (servers : Lone) (history : Pushed) (before after : List (List ℕ)) (held left : ColdSeen) → AllUp old → JoinBreaks answer old.servers.lone servers old.history.entries history.entries before after → JoinsOver old.servers.lone.link old.servers.lone.journal.end old.history.entries history.entries (Err answer) held.disk left.disk held.journal left.journal → RoseExactlyOn {T = Bool} held.journal.faults left.journal.faults (Err answer) Failed → RoseExactlyOn {T = Bool} held.journal.stops left.journal.stops (Err answer) Stopped
+pub join-off : (answer : DiskAnswer) (old : Cluster Solo) (servers : Lone) (history : Pushed) (before after : List (List ℕ)) (held left : ColdSeen) → AllUp old → JoinBreaks answer old.servers.lone servers old.history.entries history.entries before after held.journal left.journal → JoinsOver old.servers.lone.link old.servers.lone.journal.end old.history.entries history.entries (Err answer) held.disk left.disk held.journal left.journal → RoseExactlyOn {T = Bool} held.journal.faults left.journal.faults (Err answer) Failed → RoseExactlyOn {T = Bool} held.journal.stops left.journal.stops (Err answer) Stopped
     → ComesOff cold_kit any_state (EndsStep cold_kit) answer old (record old { servers = record { lone = servers }; history = history }) before after held left
 join-off Memory old servers history before after held left up breaks over cause stop = λ setup state good shows count so.
-    joins-lack setup state old servers history held left good shows (up setup state good shows) (lacks-armed old.servers.lone servers breaks) over (rose-by {T = Bool} Memory held.journal left.journal cause stop)
+    joins-lack setup state old servers history held left good shows (up setup state good shows) (lacks-armed old.servers.lone servers old.history.entries history.entries held.journal left.journal breaks) over (rose-by {T = Bool} Memory held.journal left.journal cause stop)
 join-off Failed old servers history before after held left up breaks over cause stop = λ setup state good shows count so.
     joins-end setup state old servers history before after held left good shows count (up setup state good shows) breaks.0 breaks.1 breaks.2 over (rose-by {T = Bool} Failed held.journal left.journal cause stop)
 join-off Stopped old servers history before after held left up breaks over cause stop = λ setup state good shows count so.
@@ -102,7 +102,7 @@ pub work-comes : {T : Type 0} (done : T) (old : Cluster Solo) (servers : Lone) (
 work-comes done old servers net before after held left up some none works over cause stop = λ setup state good shows count so.
     works-advance setup done state old servers net before after held left good shows count (up setup state good shows) some none works over (stands-done done held.disk left.disk cause stop)
 
-pub work-off : {T : Type 0} (answer : DiskAnswer) (old : Cluster Solo) (servers : Lone) (net before after : List (List ℕ)) (held left : ColdSeen) → AllUp old → IsSome old.servers.lone.node.replica.owed → old.servers.lone.node.waits ≡ None → WorkBreaks answer old.servers.lone servers old.net net before after → WorksOver {T = T} (calls_of_all (deeds_in old.servers.lone.node.replica.owed)) (Err answer) held.disk left.disk held.journal left.journal → RoseExactlyOn {T = T} held.disk.faults left.disk.faults (Err answer) Failed → RoseExactlyOn {T = T} held.disk.stops left.disk.stops (Err answer) Stopped
+pub work-off : {T : Type 0} (answer : DiskAnswer) (old : Cluster Solo) (servers : Lone) (net before after : List (List ℕ)) (held left : ColdSeen) → AllUp old → IsSome old.servers.lone.node.replica.owed → old.servers.lone.node.waits ≡ None → WorkBreaks answer old.servers.lone servers old.net net before after held.disk left.disk → WorksOver {T = T} (calls_of_all (deeds_in old.servers.lone.node.replica.owed)) (Err answer) held.disk left.disk held.journal left.journal → RoseExactlyOn {T = T} held.disk.faults left.disk.faults (Err answer) Failed → RoseExactlyOn {T = T} held.disk.stops left.disk.stops (Err answer) Stopped
     → ComesOff cold_kit any_state (EndsStep cold_kit) answer old (record old { servers = record { lone = servers }; net = net }) before after held left
 work-off Memory old servers net before after held left up some none breaks over cause stop = λ setup state good shows count so.
     works-lack setup state old servers net good shows (up setup state good shows) some none before after held left breaks over (rose-by {T = _} Memory held.disk left.disk cause stop)

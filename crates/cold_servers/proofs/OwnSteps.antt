@@ -133,10 +133,10 @@ module _ (old : Cluster Solo) (servers : Lone) (history : Pushed) (before after 
   mirror-ok true some joins over cause stop = joins-line joins over cause stop
   mirror-ok false some joins over cause stop = absurd (some joins.0)
 
-  mirror-off : (answer : DiskAnswer) → JoinBreaks answer old.servers.lone servers old.history.entries history.entries before after → JoinOver (Err answer) → RoseExactlyOn {T = Bool} held.journal.faults left.journal.faults (Err answer) Failed → RoseExactlyOn {T = Bool} held.journal.stops left.journal.stops (Err answer) Stopped
+  mirror-off : (answer : DiskAnswer) → JoinBreaks answer old.servers.lone servers old.history.entries history.entries before after held.journal left.journal → JoinOver (Err answer) → RoseExactlyOn {T = Bool} held.journal.faults left.journal.faults (Err answer) Failed → RoseExactlyOn {T = Bool} held.journal.stops left.journal.stops (Err answer) Stopped
       → Off answer line.Mirror old joined before after held left
   mirror-off Memory breaks over cause stop = λ setup state good shows count.
-      joins-lack setup state old servers history held left good shows (up setup state good shows) (lacks-armed old.servers.lone servers breaks) over (rose-by {T = Bool} Memory held.journal left.journal cause stop)
+      joins-lack setup state old servers history held left good shows (up setup state good shows) (lacks-armed old.servers.lone servers old.history.entries history.entries held.journal left.journal breaks) over (rose-by {T = Bool} Memory held.journal left.journal cause stop)
   mirror-off Failed breaks over cause stop = λ setup state good shows count.
       let is = up setup state good shows in
       let waits = waiting-entry setup state old history Failed held.disk left.disk held.journal left.journal tt shows is over in
@@ -154,7 +154,7 @@ module _ (old : Cluster Solo) (servers : Lone) (history : Pushed) (before after 
             record { setup = has.setup; state = halted.end.state; good = halted.good; shows = halted.shows; count = halted.count; so = tt },
       )
 
-  pub mirror-line : {E : Type 0} (r : Result Bool DiskAnswer) (s : Result E DiskAnswer) → (old.servers.lone.link ≡ [] → ⊥) → DoneAtStop r s → IfOk r (λ went. Joins went old.servers.lone servers old.history.entries history.entries before after) → IfErr r (λ answer. JoinBreaks answer old.servers.lone servers old.history.entries history.entries before after) → JoinOver r → RoseExactlyOn held.journal.faults left.journal.faults r Failed → RoseExactlyOn held.journal.stops left.journal.stops r Stopped
+  pub mirror-line : {E : Type 0} (r : Result Bool DiskAnswer) (s : Result E DiskAnswer) → (old.servers.lone.link ≡ [] → ⊥) → DoneAtStop r s → IfOk r (λ went. Joins went old.servers.lone servers old.history.entries history.entries before after) → IfErr r (λ answer. JoinBreaks answer old.servers.lone servers old.history.entries history.entries before after held.journal left.journal) → JoinOver r → RoseExactlyOn held.journal.faults left.journal.faults r Failed → RoseExactlyOn held.journal.stops left.journal.stops r Stopped
       → PlaysLine cold_kit cold_script s line.Mirror old joined before after held left
   mirror-line (Ok went) s some ends joins breaks over cause stop =
       off-line {T = Bool} (Ok went) s line.Mirror old joined before after held left ends (mirror-ok went some joins over cause stop) tt (join-counts _ _ _ _ (Ok went) held left over cause)
@@ -213,7 +213,7 @@ module _ (T : Type 0) (old : Cluster Solo) (servers : Lone) (net before after : 
             record { setup = has.setup; state = came.outcome.state; good = came.played.good; shows = came.played.shows; count = came.count; so = tt },
       )
 
-  work-off : (answer : DiskAnswer) → WorkBreaks answer old.servers.lone servers old.net net before after → Over (Err answer) → RoseExactlyOn {T = T} held.disk.faults left.disk.faults (Err answer) Failed → RoseExactlyOn {T = T} held.disk.stops left.disk.stops (Err answer) Stopped
+  work-off : (answer : DiskAnswer) → WorkBreaks answer old.servers.lone servers old.net net before after held.disk left.disk → Over (Err answer) → RoseExactlyOn {T = T} held.disk.faults left.disk.faults (Err answer) Failed → RoseExactlyOn {T = T} held.disk.stops left.disk.stops (Err answer) Stopped
       → Off answer line.Work old new before after held left
   work-off Memory breaks over cause stop = λ setup state good shows count.
       works-lack setup state old servers net good shows (up setup state good shows) some none before after held left breaks over (rose-by {T = T} Memory held.disk left.disk cause stop)
@@ -234,7 +234,7 @@ module _ (T : Type 0) (old : Cluster Solo) (servers : Lone) (net before after : 
             record { setup = has.setup; state = halted.end.state; good = halted.good; shows = halted.shows; count = halted.count; so = tt },
       )
 
-  pub work-line : {E : Type 0} (r : Result T DiskAnswer) (s : Result E DiskAnswer) → DoneAtStop r s → OnOk r (Works old.servers.lone servers old.net net before after) → IfErr r (λ answer. WorkBreaks answer old.servers.lone servers old.net net before after) → Over r → RoseExactlyOn held.disk.faults left.disk.faults r Failed → RoseExactlyOn held.disk.stops left.disk.stops r Stopped
+  pub work-line : {E : Type 0} (r : Result T DiskAnswer) (s : Result E DiskAnswer) → DoneAtStop r s → OnOk r (Works old.servers.lone servers old.net net before after) → IfErr r (λ answer. WorkBreaks answer old.servers.lone servers old.net net before after held.disk left.disk) → Over r → RoseExactlyOn held.disk.faults left.disk.faults r Failed → RoseExactlyOn held.disk.stops left.disk.stops r Stopped
       → PlaysLine cold_kit cold_script s line.Work old new before after held left
   work-line (Ok done) s ends works breaks over cause stop =
       off-line {T = T} (Ok done) s line.Work old new before after held left ends (work-ok done works over cause stop) tt (work-counts _ (Ok done) held left over cause)

@@ -196,12 +196,12 @@ module _ (old : Cluster Solo) (servers : Lone) (history : Pushed) (before after 
   joins-ok : (went : Bool) → AreUp old → Joins went old.servers.lone servers old.history.entries history.entries before after → Over (Ok went) → GoesWild cold_kit {T = Bool} always (Ok went) old joined held left
   joins-ok went up joins over = λ seen wild so. joined-on went up joins over seen wild
 
-  joins-err : (answer : DiskAnswer) → JoinBreaks answer old.servers.lone servers old.history.entries history.entries before after → Over (Err answer) → GoesWild cold_kit {T = Bool} always (Err answer) old joined held left
+  joins-err : (answer : DiskAnswer) → JoinBreaks answer old.servers.lone servers old.history.entries history.entries before after held.journal left.journal → Over (Err answer) → GoesWild cold_kit {T = Bool} always (Err answer) old joined held left
   joins-err Memory breaks over = tt
   joins-err Failed breaks over = tt
   joins-err Stopped breaks over = λ seen wild so. stopped-on breaks.0 over seen wild
 
-  pub joins-wild : (result : Result Bool DiskAnswer) → AreUp old → IfOk result (λ went. Joins went old.servers.lone servers old.history.entries history.entries before after) → IfErr result (λ answer. JoinBreaks answer old.servers.lone servers old.history.entries history.entries before after) → Over result → GoesWild cold_kit always result old joined held left
+  pub joins-wild : (result : Result Bool DiskAnswer) → AreUp old → IfOk result (λ went. Joins went old.servers.lone servers old.history.entries history.entries before after) → IfErr result (λ answer. JoinBreaks answer old.servers.lone servers old.history.entries history.entries before after held.journal left.journal) → Over result → GoesWild cold_kit always result old joined held left
   joins-wild (Ok went) up joins breaks over = joins-ok went up joins over
   joins-wild (Err answer) up joins breaks over = joins-err answer breaks over
 
@@ -271,12 +271,12 @@ module _ (T : Type 0) (calls : List DeviceCall) (old : Cluster Solo) (servers : 
       (subst (λ (s : Lone). IsSilent (record { lone = s }) (messages_in seen.net) left) (sym is)
       (down-silent old.servers.lone (messages_in seen.net) left (works-untold (Err Stopped) over wild.servers.untold) unarmed.0 unarmed.1)))
 
-  works-err : (answer : DiskAnswer) → WorkBreaks answer old.servers.lone servers old.net net before after → Done (Err answer) → GoesWild cold_kit {T = T} always (Err answer) old worked held left
+  works-err : (answer : DiskAnswer) → WorkBreaks answer old.servers.lone servers old.net net before after held.disk left.disk → Done (Err answer) → GoesWild cold_kit {T = T} always (Err answer) old worked held left
   works-err Memory breaks over = tt
   works-err Failed breaks over = tt
   works-err Stopped breaks over = λ seen wild so. stops-on breaks.0 breaks.1 over seen wild
 
-  pub works-wild : (result : Result T DiskAnswer) → AreUp old → IsSome old.servers.lone.node.replica.owed → old.servers.lone.node.waits ≡ None → OnOk result (Works old.servers.lone servers old.net net before after) → IfErr result (λ answer. WorkBreaks answer old.servers.lone servers old.net net before after) → Done result → GoesWild cold_kit always result old worked held left
+  pub works-wild : (result : Result T DiskAnswer) → AreUp old → IsSome old.servers.lone.node.replica.owed → old.servers.lone.node.waits ≡ None → OnOk result (Works old.servers.lone servers old.net net before after) → IfErr result (λ answer. WorkBreaks answer old.servers.lone servers old.net net before after held.disk left.disk) → Done result → GoesWild cold_kit always result old worked held left
   works-wild (Ok done) up some none works breaks over = works-ok done up some none works over
   works-wild (Err answer) up some none works breaks over = works-err answer breaks over
 

@@ -274,16 +274,16 @@ module _ (setup : Setup) (world : World) (entry : Entry) (keeps : Bool) (armed b
             (made-as tried.more (0 + tried.more) held.disk left.disk (sym (zero-plus tried.more)) (made-by tried.more held.disk left.disk tried.changed.0 stands)) (made-same held.journal left.journal counted.1);
       }
 
-  lacks-at : {T : Type 0} (before after : List (List ℕ)) (held left : ColdSeen) → WorkBreaks Memory old.servers.lone servers old.net net before after → WorksOver {T = T} owed (Err Memory) held.disk left.disk held.journal left.journal → RoseBy Memory held.disk left.disk → Broken cold_kit setup state held left now × LacksBoth setup state old.history.entries held left
+  lacks-at : {T : Type 0} (before after : List (List ℕ)) (held left : ColdSeen) → WorkBreaks Memory old.servers.lone servers old.net net before after held.disk left.disk → WorksOver {T = T} owed (Err Memory) held.disk left.disk held.journal left.journal → RoseBy Memory held.disk left.disk → Broken cold_kit setup state held left now × LacksBoth setup state old.history.entries held left
   lacks-at {T} before after held left breaks over rose =
       let C : List DeviceCall → Type 0 = λ c. PerformsOrLacks c over.worked held.disk.files over.mid.files held.disk.tally over.mid.tally in
       let performs : C calls = subst C (calls-are setup world entry keeps armed beside old good shows) over.performs in
       let both = lacks-between T over.worked held left over.mid performs over.ends over.disk over.journal in
       let none : LacksBoth setup state old.history.entries held left = λ besides. lacked-so held left both.1 (stands-lacking held.disk left.disk rose) in
       elim breaks [
-        | inl kept ↦ (breaks-same held left (ap (λ (s : Lone). s.armed) kept.0) both.1 (subst (λ (n : List (List ℕ)). AreSpelled world.net n) (sym kept.1) shows.net) both.0, none)
+        | inl kept ↦ (breaks-same held left (ap (λ (s : Lone). s.armed) kept.0) both.1 (subst (λ (n : List (List ℕ)). AreSpelled world.net n) (sym kept.1.0) shows.net) both.0, none)
         | inr some ↦
-            let posts = subst (λ (s : Lone). PostsSome (replies_in s.node.replica.owed) old.net net) shows.own some.1 in
+            let posts = subst (λ (s : Lone). PostsSome (replies_in s.node.replica.owed) old.net net) shows.own some.1.0 in
             let stays : servers.armed ≡ old.servers.lone.armed = ap (λ (s : Lone). s.armed) some.0 in
             elim (answer-breaks setup past entry world.net old.net net posts shows.net) [
               | inl spelled ↦ (breaks-same held left stays both.1 spelled both.0, none)
@@ -326,7 +326,7 @@ module _ (setup : Setup) (state : State Alone) (old : Cluster Solo) (servers : L
       (subst (λ (s : State Alone). cold_kit.Armed s.peers held) (sym same) count) is kept lines over rose)
 
   -- **memory ran out**: the deeds are done or not, and the reply is posted or not
-  pub works-lack : {T : Type 0} (before after : List (List ℕ)) (held left : ColdSeen) → WorkBreaks Memory old.servers.lone servers old.net net before after → WorksOver {T = T} (calls_of_all (deeds_in old.servers.lone.node.replica.owed)) (Err Memory) held.disk left.disk held.journal left.journal → RoseBy Memory held.disk left.disk
+  pub works-lack : {T : Type 0} (before after : List (List ℕ)) (held left : ColdSeen) → WorkBreaks Memory old.servers.lone servers old.net net before after held.disk left.disk → WorksOver {T = T} (calls_of_all (deeds_in old.servers.lone.node.replica.owed)) (Err Memory) held.disk left.disk held.journal left.journal → RoseBy Memory held.disk left.disk
       → Broken cold_kit setup state held left (record old { servers = record { lone = servers }; net = net }) × LacksBoth setup state old.history.entries held left
   works-lack before after held left breaks over rose =
       subst (λ (s : State Alone). Broken cold_kit setup s held left (record old { servers = record { lone = servers }; net = net }) × LacksBoth setup s old.history.entries held left) same

@@ -59,14 +59,19 @@ abbrev pub KeepsOrNot : {T : Type 0} → Result T DiskAnswer → List Message �
 KeepsOrNot (Ok done) link past entries = FirstOrNot link past entries
 KeepsOrNot (Err answer) link past entries = entries ≡ past
 
--- memory ran out: nothing was done, or the message is lost, or it joined and is not on the way back
-abbrev pub JoinLacks : Lone → Lone → Type 0
-JoinLacks old new = (new ≡ old) ⊎ LosesFirst old new ⊎ ((message : Message) × JoinsFirst message old new)
+-- memory ran out, by how far the append came: it was not begun, and all stays; or it was not done, and the message is lost; or it was done, the
+-- message is not on the way back, and its entry is committed or not
+abbrev pub JoinLacks : Lone → Lone → List Entry → List Entry → DiskSeen → DiskSeen → Type 0
+JoinLacks old new past entries held left =
+    ((new ≡ old) × (entries ≡ past) × (left ≡ held))
+    ⊎ (LosesFirst old new × (entries ≡ past) × AppendsCalls {T = Option Message} old.link old.journal.end (Err Memory) held left)
+    ⊎ ((message : Message) × JoinsFirst message old new × CommitsOrNot (entry_in message) past entries
+    × AppendsCalls old.link old.journal.end (Ok (Some message)) held left)
 
 -- what is left where it broke off, by the answer: where the journal's disk stopped or had a fault the server is down, which is told
-abbrev pub JoinBreaks : DiskAnswer → Lone → Lone → List Entry → List Entry → List (List ℕ) → List (List ℕ) → Type 0
-JoinBreaks Memory old new past entries before after = JoinLacks old new
-JoinBreaks _ old new past entries before after =
+abbrev pub JoinBreaks : DiskAnswer → Lone → Lone → List Entry → List Entry → List (List ℕ) → List (List ℕ) → DiskSeen → DiskSeen → Type 0
+JoinBreaks Memory old new past entries before after held left = JoinLacks old new past entries held left
+JoinBreaks _ old new past entries before after held left =
     (new ≡ downed old) × (entries ≡ past) × (after ≡ before ++ server_line A Down ∷ [])
 
 -- how the append ended that it did: memory may run out behind one that is done

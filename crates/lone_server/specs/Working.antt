@@ -1,10 +1,11 @@
 -- Words of public clauses: the entry in hand is worked, or the server goes down in that; and it hears what came back from the journal.
 use Rattle.std.specs.Prelude.{◌≡◌, ◌⊎◌, ℕ, ℤ, Bool, true, false, List, [], ◌∷◌, ◌++◌, Result, Ok, Err}
 use Rattle.std.specs.List.{AllByRecursion}
-use Rattle.disk_model.specs.DeviceCalls.{DeviceCall}
+use Rattle.disk_model.specs.DeviceCalls.{DeviceCall, Performs}
 use Rattle.disk_model.specs.Seen.{DiskSeen}
 use Rattle.disk_model.specs.declared.answers.DiskAnswer.{DiskAnswer}
 use Rattle.disk_model.specs.declared.answers.DiskAnswer.TheVariants.{Memory, Failed, Stopped}
+use Rattle.stream_layout.specs.Deeds.{calls_of_all}
 use Rattle.script_lines.specs.declared.line.Server.TheVariants.{A}
 use Rattle.wire.specs.declared.message.Message.{Message}
 use Rattle.cluster_events.specs.declared.lines.ServerRole.TheVariants.{Down}
@@ -13,7 +14,7 @@ use Rattle.event_text.specs.Texts.{server_line}
 use Rattle.mirror.specs.declared.heard.Heard.{Heard}
 use Rattle.mirror.specs.declared.state.NodeState.{NodeState}
 use Rattle.mirror.specs.Pairing.{CanReceive, worked_out}
-use Rattle.mirror.specs.Working.{replies_in}
+use Rattle.mirror.specs.Working.{deeds_in, replies_in}
 use Rattle.lead_server.specs.Heard.{IsConfirmed}
 use Rattle.journal_start.specs.Journals.{PerformsOrLacks}
 use Rattle.lone_server.specs.declared.lone.Lone.{Lone}
@@ -29,13 +30,19 @@ pub record Works (old new : Lone) (old_net new_net before after : List (List ℕ
   pub servers : new ≡ worked_lone old
   pub posts : PostsAll (replies_in old.node.replica.owed) old_net new_net before after
 
--- what is left where it broke off, by the answer: where the record disk stopped or had a fault the server is down, which is told. Where memory
--- ran out the deeds can be done again, or they are done
-abbrev pub WorkBreaks : DiskAnswer → Lone → Lone → List (List ℕ) → List (List ℕ) → List (List ℕ) → List (List ℕ) → Type 0
-WorkBreaks Memory old new old_net new_net before after =
-    ((new ≡ old) × (new_net ≡ old_net))
-    ⊎ ((new ≡ worked_lone old) × PostsSome (replies_in old.node.replica.owed) old_net new_net)
-WorkBreaks _ old new old_net new_net before after =
+-- memory ran out, by how far the deeds came: they were not done, all stays, and they can be done again; or they were, and the reply was posted
+-- or not
+abbrev pub WorkLacks : Lone → Lone → List (List ℕ) → List (List ℕ) → DiskSeen → DiskSeen → Type 0
+WorkLacks old new old_net new_net held left =
+    let calls = calls_of_all (deeds_in old.node.replica.owed) in
+    ((new ≡ old) × (new_net ≡ old_net) × PerformsOrLacks {T = Heard} calls (Err Memory) held.files left.files held.tally left.tally)
+    ⊎ ((new ≡ worked_lone old) × PostsSome (replies_in old.node.replica.owed) old_net new_net
+    × Performs {T = Unit {0}} calls (Ok tt) held.files left.files held.tally left.tally)
+
+-- what is left where it broke off, by the answer: where the record disk stopped or had a fault the server is down, which is told
+abbrev pub WorkBreaks : DiskAnswer → Lone → Lone → List (List ℕ) → List (List ℕ) → List (List ℕ) → List (List ℕ) → DiskSeen → DiskSeen → Type 0
+WorkBreaks Memory old new old_net new_net before after held left = WorkLacks old new old_net new_net held left
+WorkBreaks _ old new old_net new_net before after held left =
     (new ≡ downed old) × (new_net ≡ old_net) × (after ≡ before ++ server_line A Down ∷ [])
 
 -- how the work ended that it did: memory may run out behind one that is done

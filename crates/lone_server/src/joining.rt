@@ -80,8 +80,9 @@ fn commit_joined(
 ///
 /// The journal's disk makes the four calls of an append, as `append_first` says. Where it stops or has a fault in that, the server goes down,
 /// neither disk is armed any more, and the line that tells so is put; it is put first and taken back where it is not so, so that it is not
-/// lost for want of memory. `Memory` comes where memory ran out: nothing was done, or the append broke off and the message is lost, or it
-/// joined the journal, is not on the way back, and its entry is committed or not.
+/// lost for want of memory. `Memory` comes where memory ran out, or the history has 4,000,000,000 entries, and lines may have been added then:
+/// nothing was done; or the append was not, and the message is lost; or it was, the message is not on the way back, and its entry is committed
+/// or not.
 pub fn join_journal<D: SharedDisk, J: SharedDisk>(
     alloc: Global,
     servers: &mut Lone,
@@ -94,7 +95,8 @@ pub fn join_journal<D: SharedDisk, J: SharedDisk>(
     ensures ok { IfOk result (λ went. Joins went servers.old servers.new history.old.entries
         history.new.entries lines.old.items lines.new.items) }
     ensures err { IfErr result (λ answer. JoinBreaks answer servers.old servers.new
-        history.old.entries history.new.entries lines.old.items lines.new.items) }
+        history.old.entries history.new.entries lines.old.items lines.new.items
+        (J.seen beside.old) (J.seen beside.new)) }
     ensures disks { JoinsOver servers.old.link servers.old.journal.end history.old.entries
         history.new.entries result (D.seen disk.old) (D.seen disk.new) (J.seen beside.old)
         (J.seen beside.new) }

@@ -23,8 +23,8 @@ use wire::{let_message_go, let_messages_go};
 ///
 /// The record disk makes the calls of the deeds in order, up to the first that is not done, and no others. Where it stops or has a fault in
 /// one of them the server goes down, neither disk is armed any more, and the line that tells so is put; it is put first and taken back where
-/// it is not so, so that it is not lost for want of memory. `Memory` comes where memory ran out: the deeds can be done again, or they are done
-/// and the reply was posted or not.
+/// it is not so, so that it is not lost for want of memory. `Memory` comes where memory ran out, and lines may have been added then: the deeds
+/// can be done again, or they are done and the reply was posted or not.
 pub fn work_entry<D: SharedDisk, J: SharedDisk>(
     alloc: Global,
     servers: &mut Lone,
@@ -39,7 +39,7 @@ pub fn work_entry<D: SharedDisk, J: SharedDisk>(
     ensures ok { OnOk result (Works servers.old servers.new net.old net.new lines.old.items
         lines.new.items) }
     ensures err { IfErr result (λ answer. WorkBreaks answer servers.old servers.new net.old net.new
-        lines.old.items lines.new.items) }
+        lines.old.items lines.new.items (D.seen disk.old) (D.seen disk.new)) }
     ensures disks { WorksOver (calls_of_all (deeds_in servers.old.node.replica.owed)) result
         (D.seen disk.old) (D.seen disk.new) (J.seen beside.old) (J.seen beside.new) }
     ensures cause { RoseExactlyOn (D.seen disk.old).faults (D.seen disk.new).faults result

@@ -187,14 +187,17 @@ returns-in-Err-Stopped-clause-stop g c =
 
 -- memory ran out: nothing was done, or the message is lost, or it joined
 pub returns-in-Err-clause-err : goal.returns-in-Err-clause-err
-returns-in-Err-clause-err g c = inl refl
+returns-in-Err-clause-err g c = inl (refl, refl, refl)
 
 pub returns-in-Err-Memory-clause-err : goal.returns-in-Err-Memory-clause-err
-returns-in-Err-Memory-clause-err g c = inr (inl c.in-Err-Memory.ensures.err)
+returns-in-Err-Memory-clause-err g c =
+    let calls = rw c.in-Err-Memory.field-0-is at c.in-Err-Memory.ensures.calls in
+    inr (inl (c.in-Err-Memory.ensures.err, refl, calls))
 
 pub returns-in-Err-commit_joined-clause-err : goal.returns-in-Err-commit_joined-clause-err
 returns-in-Err-commit_joined-clause-err g c =
     let joins = rw c.in-Ok-Some.field-0-is at c.in-Ok-Some.ensures.ok in
+    let calls = rw c.in-Ok-Some.field-0-is at c.in-Ok-Some.ensures.calls in
     let one : JoinsFirst c.in-Ok-Some.message c.args.servers.now c.commit_joined.new.servers = record {
       rest = joins.rest;
       first = joins.first;
@@ -202,4 +205,4 @@ returns-in-Err-commit_joined-clause-err g c =
       can = joins.can;
     }
     in
-    inr (inr (c.in-Ok-Some.message, one))
+    inr (inr (c.in-Ok-Some.message, one, c.in-Err-commit_joined.ensures.err, calls))

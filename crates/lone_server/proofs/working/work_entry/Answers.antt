@@ -12,7 +12,7 @@ use Rattle.lone_server.proofs.working.work_entry.Goals as goal
 
 -- there was no memory for the line that tells of a fall
 pub returns-in-Err-clause-err : goal.returns-in-Err-clause-err
-returns-in-Err-clause-err g c = inl (refl, refl)
+returns-in-Err-clause-err g c = inl (refl, refl, inl (refl, refl, refl))
 
 pub returns-in-Err-clause-disks : goal.returns-in-Err-clause-disks
 returns-in-Err-clause-disks g c = record {
@@ -69,6 +69,7 @@ returns-in-Err-tell_worked-clause-err g c =
     inr (
       ap (λ (node : NodeState). record c.args.servers.now { node = node }) done.1,
       subst (λ (heard : Heard). PostsSome heard.to_net c.args.net.now c.tell_worked.new.net) done.0 c.in-Err-tell_worked.ensures.err,
+      c.in-Ok-work.ensures.performs,
     )
 
 pub returns-in-Err-tell_worked-clause-disks : goal.returns-in-Err-tell_worked-clause-disks
@@ -91,7 +92,8 @@ returns-in-Err-tell_worked-clause-stop g c = rose-lacks _ _ c.in-Ok-work.heard S
 pub returns-in-Err-Memory-clause-err : goal.returns-in-Err-Memory-clause-err
 returns-in-Err-Memory-clause-err g c =
     let same = c.in-Err-Memory.ensures.memory (ap Err c.in-Err-Memory.field-0-is) in
-    inl (ap (λ (node : NodeState). record c.args.servers.now { node = node }) same, refl)
+    let broke = rw c.in-Err-Memory.field-0-is at c.in-Err-Memory.ensures.performs in
+    inl (ap (λ (node : NodeState). record c.args.servers.now { node = node }) same, refl, inr broke)
 
 pub returns-in-Err-Memory-clause-disks : goal.returns-in-Err-Memory-clause-disks
 returns-in-Err-Memory-clause-disks g c =
