@@ -28,12 +28,12 @@ pub record Hears (place : ℕ) (message : Message) (now : ℤ) (old new : Node) 
   pub told : IsTold place heard old_net new_net past entries before after
   pub beside : mirrored ≡ heard.to_peer
 
--- memory was wanting: nothing was heard, or what was heard is told in part. The history stands
+-- memory was wanting: nothing was heard, or what was heard is told in part, where a further entry could be accepted. The history stands
 pub record HearsPartly (message : Message) (now : ℤ) (old new : Node) (old_net new_net : List (List ℕ)) (past entries : List Entry) : Type 0 where
   pub history : entries ≡ past
   pub part :
       ((new ≡ old) × (new_net ≡ old_net))
-      ⊎ ((heard : Heard) × IsHeard message now old heard new × PostsSome heard.to_net old_net new_net)
+      ⊎ ((heard : Heard) × IsHeard message now old heard new × PostsSome heard.to_net old_net new_net × HasRoom old.replica.service)
 
 -- a message of a server beside was heard
 pub record IsConfirmed (message : Message) (old new : Node) : Type 0 where
@@ -54,4 +54,5 @@ HoldsInRange replica =
 -- memory was wanting: some of them were posted, from the first on, or none
 abbrev pub PushesPartly : ReplicaState → List (List ℕ) → List (List ℕ) → Type 0
 PushesPartly replica old_net new_net =
-    (new_net ≡ old_net) ⊎ ((items : List Message) × IsHeldBy replica items × PostsSome items old_net new_net)
+    (new_net ≡ old_net)
+    ⊎ ((items : List Message) × IsHeldBy replica items × PostsSome items old_net new_net × (items ≡ items_pushed replica.service))

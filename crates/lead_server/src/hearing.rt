@@ -22,8 +22,8 @@ use wire::{Message, let_messages_go};
 /// The active server hears a message of this place in the net, at a moment from 0 to 9,000,000,000,000,000,000 (nanoseconds since 1970 in UTC).
 /// A request or a receipt is that of a client from 1 to 4,096, and a request's number is at least 1. The answer to it is posted, its line is put
 /// where it was ignored, and an entry that waits for nobody is committed. What goes to the servers beside it comes back. Where 4,000,000,000
-/// entries were accepted it answers as if memory ran out; on an error the history stays, nothing but an answer was posted, and lines may have
-/// been added.
+/// entries were accepted it answers as if memory ran out. On an error the history stays and lines may have been added: server and net stay too,
+/// or the server has heard the message, and its answer was posted or not.
 pub fn hear(
     alloc: Global,
     active: &mut Node,

@@ -60,6 +60,6 @@ returns-clause-err c =
     on_err_weaker c.tell_heard.result
     (λ both. record {
       history = ap (λ (h : Pushed). h.entries) both.1 ∙ c.in_ok-reserve.ensures.entries;
-      part = inr (heard, subst H (to_z-of_z w64 a.now c.ranges.now) c.in_ok-heard.ensures.ok, both.0);
+      part = inr (heard, subst H (to_z-of_z w64 a.now c.ranges.now) c.in_ok-heard.ensures.ok, both.0, c.has_room.ensures.0 c.if-not-has_room.false);
     })
     (both-err c.tell_heard.result _ _ c.tell_heard.ensures.net c.tell_heard.ensures.history)
