@@ -39,7 +39,8 @@ pub fn is_up(world: &Cluster<Solo>) -> bool
     matches!(world.servers.lone.node.role(), Role::Active)
 }
 
-/// The same, as the definitions say it: of a server that is down nothing on the way or in hand is shown.
+/// The roles of the server and of its journal, the lengths of the net and of both ways, and the number in hand: of a server that is down
+/// nothing on the way or in hand is shown. It takes no memory.
 pub fn stands(world: &Cluster<Solo>) -> Standing
     ensures { StandsAs cold_kit world.entry.now result }
 {

@@ -76,7 +76,8 @@ fn commit_one(
     }
 }
 
-/// Adds an entry to the history, and its line, if there is one. Where memory runs out, or the history has 4,000,000,000 entries, both stay.
+/// Adds an entry to the history, which has room for one more, and its line, if there is one. Where memory runs out, or the history has
+/// 4,000,000,000 entries, both stay.
 pub fn commit(
     alloc: Global,
     history: &mut History,

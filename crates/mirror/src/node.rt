@@ -160,7 +160,7 @@ impl Node {
         }
     }
 
-    /// Whether a further entry can be accepted: fewer than 4,000,000,000 were.
+    /// Whether a further entry can be accepted: fewer than 4,000,000,000 were, or the server has no service that counts them.
     pub fn has_room(&self) -> bool
         ensures { IsTrue result ↔ HasRoom self.now.replica.service }
     {
@@ -210,7 +210,7 @@ impl Node {
         }
     }
 
-    /// The entry in hand that waits until the partner has it.
+    /// The entry in hand that waits until the partner has it; `None` where none waits.
     pub fn waiting(&self) -> Option<&Entry>
         ensures { option_copied result ≡ self.now.waits }
     {
