@@ -35,6 +35,14 @@ impl<T> Boxed<T> {
     {
         &self.inner
     }
+
+    /// The value, out of its box. It takes no memory.
+    pub fn into_inner(self) -> T
+        ensures { result ≡ self }
+    {
+        let Boxed { inner } = self;
+        Box::into_inner(inner)
+    }
 }
 
 impl<T: Duplicate + Drop> Duplicate for Boxed<T> {
