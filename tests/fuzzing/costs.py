@@ -1,16 +1,18 @@
 """Scripts that fill what a world keeps, whose cost may grow with it: queues, the net, clients, subscriptions, calls without reply; or that
-hand it on again and again."""
+hand it on again and again; and long runs of lines of one kind, of which that is compared what they add."""
 import os
 import sys
 
 sys.path.insert(0, os.path.join(os.path.dirname(os.path.abspath(__file__)), "..", "..", "bench"))
-from measuring import START, differ, play, processor_time, save_script, spent, write_line
+from measuring import START, differ, instructions, play, processor_time, save_script, spent, write_line
 
 CLIENTS, WINDOW, SUBSCRIPTIONS = 4096, 32, 64
 # So many falls of a server are in a script at most.
 FALLS = 300
-# A script is too dear from so many times the plain program's time of the processor on; below so many seconds none is.
-MOST_TIMES, LEAST_SECONDS = 5, 0.1
+# So many clients at most fill their windows before a long run, whose own lines would be lost in what many more take.
+FILLED = 64
+# What takes less than so many seconds is lost in what else a run takes. A long run takes so many, or has so many turns.
+LEAST_SECONDS, LONG_SECONDS, TURNS = 0.01, 0.05, 16383
 
 
 def upto(rng, most):
@@ -42,12 +44,14 @@ class Client:
 
 
 class Script:
-    """A script of the lines that bench/plain takes. Writers have no subscription, so their queues hold replies alone."""
+    """A script of the lines that bench/plain takes, by two servers or three. Writers have no subscription, so their queues hold replies
+    alone. What counts is what the lines behind the first `begun` add."""
 
-    def __init__(self, rng):
+    def __init__(self, rng, writers):
         self.rng, self.callbacks, self.sent, self.falls = rng, upto(rng, 256), 0, 0
-        self.lines = [f"cluster start={START} queue={upto(rng, 256)} callbacks={self.callbacks}"]
-        self.writers = [Client() for _ in range(upto(rng, CLIENTS - 1))]
+        self.word, self.servers = rng.choice((("run", "ab"), ("run", "ab"), ("trio", "abc")))
+        self.lines, self.begun = [f"cluster start={START} queue={upto(rng, 256)} callbacks={self.callbacks}"], 1
+        self.writers = [Client() for _ in range(writers)]
         self.subscriber = len(self.writers) + 1
         order = list(range(1, self.subscriber))
         rng.choice((list, list.reverse, rng.shuffle))(order)
@@ -72,8 +76,8 @@ class Script:
             client.settle(self.callbacks)
         self.lines.append("settle")
 
-    def write(self):
-        client = upto(self.rng, len(self.writers))
+    def write(self, client=None):
+        client = client or upto(self.rng, len(self.writers))
         writer = self.writers[client - 1]
         if writer.next and writer.can_ask():
             flagged = self.rng.random() < self.flags
@@ -93,7 +97,7 @@ class Script:
         self.lines.append(f"dispatch {client} all workers={self.rng.choice((1, 1, 2, 8))}")
 
     def fail(self):
-        server = self.rng.choice("ab")
+        server = self.rng.choice(self.servers)
         if self.falls == FALLS:
             return
         self.falls += 1
@@ -102,30 +106,123 @@ class Script:
         self.settle()
 
     def play(self, count):
-        """Adds so many turns, each kind as often as this script has it."""
+        """Adds so many turns, of each kind as many as this script has, by chance."""
         self.flags = self.rng.choice((0, 0.1, 1))
         kinds = (self.write, self.send, self.settle, self.dispatch, self.fail)
         often = [upto(self.rng, 100) - 1 for _ in kinds[:-1]] + [self.rng.choice((0, 0, 1, upto(self.rng, 100)))]
         for kind in self.rng.choices(kinds, often, k=count) if any(often) else ():
             kind()
-        return self.lines
+
+    def lengthen(self):
+        """Whether it can be made longer, and then is."""
+        return False
+
+
+class Long(Script):
+    """Lines that make a state, and behind them turns of one kind, of lines that leave it as it is or add to it. They dispatch by one worker,
+    since bench/plain has no others."""
+
+    def __init__(self, rng):
+        super().__init__(rng, rng.choice((1, upto(rng, 32), upto(rng, 32), upto(rng, CLIENTS - 1))))
+        self.flags = 0
+        for client in range(1, rng.choice((0, min(len(self.writers), FILLED))) + 1):
+            for _ in range(WINDOW - 2):
+                self.write(client)
+        self.settle()
+        for _ in range(rng.choice((0, 0, 1, upto(rng, 1000)))):
+            self.send()
+        self.settle()
+        self.begun, self.count, self.further = len(self.lines), 0, rng.randrange(4)
+        kinds = (self.join, self.join, self.take_over, self.settle, self.tell, self.hand_out, self.ask_once, self.ask_often, self.report)
+        self.turn = rng.choice(kinds)
+
+    def lengthen(self):
+        for _ in range(self.count + 1):
+            self.turn()
+        self.count += self.count + 1
+        return self.count < TURNS
+
+    def join(self):
+        server = self.servers[-1]
+        self.lines += [f"crash {server}", f"restart {server}"] + (["settle"] if self.further % 2 else ["mirror", "ack"])
+
+    def take_over(self):
+        for server in self.servers:
+            self.lines += [f"crash {server}", f"restart {server}", "settle"]
+
+    def tell(self):
+        self.lines.append(("servers", "files")[self.further % 2])
+
+    def hand_out(self):
+        self.lines.append(f"dispatch {(1, self.subscriber)[self.further % 2]} all workers=1")
+
+    def ask_once(self):
+        """A write, its reply and its callback."""
+        self.flags = self.further % 2
+        self.write(1)
+        self.settle()
+        self.writers[0].queue = 0
+        self.lines += ["dispatch 1 all workers=1"] * self.flags
+
+    def ask_often(self):
+        for _ in range(WINDOW - 2):
+            self.write(self.rng.randint(1, min(len(self.writers), self.further * 8 + 1)))
+        self.settle()
+
+    def report(self):
+        """A send, its items and their receipts, and those of items that wait until a queue is emptied."""
+        self.send()
+        self.settle()
+        self.lines += [f"dispatch {self.subscriber} all workers=1", "settle"][:self.further]
 
 
 def script_of(rng):
-    """The lines of a script, up to some 10,000."""
-    return Script(rng).play(upto(rng, 8000))
+    """A script, of up to some 10,000 lines where it is not made longer."""
+    if rng.random() < 0.5:
+        return Long(rng)
+    script = Script(rng, upto(rng, CLIENTS - 1))
+    script.play(upto(rng, 8000))
+    return script
 
 
-def fault_of(program, plain, folder, lines):
-    """What is wrong with what a script costs, or None: it takes too much beside bench/plain, or the two differ."""
-    script, places = os.path.join(folder, "script"), [os.path.join(folder, name) for name in ("beside", "played")]
-    save_script(script, lines)
-    sides = list(zip(([plain], [program, "run"]), places))
-    least, seconds = (spent(lambda: play(words, place, script))[0] for words, place in sides)
-    if differ(*places):
-        return "the two print other lines or leave other files"
-    if seconds > max(LEAST_SECONDS, MOST_TIMES * least):
-        least, seconds = (processor_time(words, place, script) for words, place in sides)
-        if seconds > max(LEAST_SECONDS, MOST_TIMES * least):
-            return f"{seconds:.2f} s of the processor for {len(lines)} lines, and bench/plain {least:.2f} s"
-    return None
+class Pair:
+    """The program and bench/plain, which play scripts below a folder."""
+
+    def __init__(self, program, plain, folder):
+        self.script, self.places = os.path.join(folder, "script"), [os.path.join(folder, name) for name in ("beside", "played")]
+        self.words = {word: ([plain] + [word] * (word != "run"), [program, word]) for word in ("run", "trio")}
+
+    def added(self, measured, script):
+        """What the lines of a script behind those that it begins with add, of bench/plain and of the program, by this measure."""
+        found = []
+        for words, place in zip(self.words[script.word], self.places):
+            costs = []
+            for lines in (script.lines[:script.begun], script.lines):
+                save_script(self.script, lines)
+                costs.append(measured(words, place, self.script))
+            found.append(None if None in costs else costs[1] - costs[0])
+        return found
+
+    def fault_of(self, script, most):
+        """What is wrong with what a script costs, or None: its lines take more than so many times what they take of bench/plain, or the two
+        differ. Instructions decide where they can be counted, since times are not the same on a busy machine; beside them, since those of
+        the system are none of them, twice as many times the time."""
+        least, seconds = self.added(once, script)
+        while seconds < LONG_SECONDS and script.lengthen():
+            least, seconds = self.added(once, script)
+        if differ(*self.places):
+            return "the two print other lines or leave other files"
+        if seconds < LEAST_SECONDS or seconds <= most / 2 * least:
+            return None
+        least, seconds = self.added(processor_time, script)
+        few, taken = self.added(instructions, script)
+        if seconds <= most * (2 if few else 1) * max(least, LEAST_SECONDS / 10) and (not few or taken <= most * few):
+            return None
+        counted = f", {taken:,} instructions and {few:,}, {taken / few:.1f} times" if few else ""
+        return (f"{len(script.lines) - script.begun} lines behind the first {script.begun}, the last of them {script.lines[-1]!r}, take "
+                f"{seconds:.3f} s of the processor and of bench/plain {least:.3f} s{counted}")
+
+
+def once(words, folder, script):
+    """The seconds of a processor of one run of a script."""
+    return spent(lambda: play(words, folder, script))[0]
