@@ -54,7 +54,7 @@ fn well_stream(
     SavedStream {
         state: StreamState {
             name,
-            attrs,
+            attrs: Shared::new(alloc, attrs).expect(rt, "memory"),
             taken: 0,
             opened: 1,
             files,

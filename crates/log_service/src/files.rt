@@ -35,7 +35,7 @@ pub(crate) fn due_stamps(state: &StreamState, len: u32, last: i64, now: i64) -> 
         (current_file state.now.files).bytes len ≡ false }
 {
     let current = current_of(state.files.as_slice());
-    if !changes_file(&state.attrs, current.bytes, len) {
+    if !changes_file(state.attrs.get(), current.bytes, len) {
         return None;
     }
     let closed = stamp(last, now);
@@ -142,7 +142,8 @@ fn files_begun(
         first: state.taken,
         bytes: u64::from(len),
     })?;
-    let most = most_files(state.attrs.action, state.attrs.rotated) as usize;
+    let attrs = state.attrs.get();
+    let most = most_files(attrs.action, attrs.rotated) as usize;
     let excess = files.len().saturating_sub(most);
     remove_front(&mut files, excess);
     Ok(Seq::from_vec(files))

@@ -20,7 +20,7 @@ ghost use Rattle.log_service.specs.Planning.{with_openers, files_after, filed_in
 
 use crate::files::{Filed, due_stamps, files_stored, last_after, opened_after, stand_so};
 use crate::joined::with_client;
-use ais_values::{Duplicate, Name, Seq, Text};
+use ais_values::{Duplicate, Name, Seq, Shared, Text};
 use client_set::ClientSet;
 use format_expr::{Expr, known_expr};
 use record_print::{
@@ -87,6 +87,7 @@ pub(crate) fn new_state(
     requires { pos 0 ≤ℤ created }
     ensures { IfOk result (λ state. state ≡ new_state name attrs (unsigned_abs created)) }
 {
+    let attrs = Shared::new(alloc, attrs)?;
     let mut files = Seq::new(alloc);
     files.push(LogFile {
         created,
@@ -116,7 +117,7 @@ impl LiveStream {
         ensures { IfOk result (λ stream. stream
             ≡ record { state = state; openers = openers; mark = mark }) }
     {
-        match expression(alloc, &state.name, &state.attrs) {
+        match expression(alloc, &state.name, state.attrs.get()) {
             Ok(expr) => Ok(LiveStream {
                 state,
                 openers,
@@ -204,14 +205,14 @@ impl LiveStream {
     pub(crate) fn has_attrs(&self, attrs: &StreamAttrs) -> bool
         ensures { result ≡ same_attrs attrs.now self.now.state.attrs }
     {
-        *attrs == self.state.attrs
+        *attrs == *self.state.attrs.get()
     }
 
     /// Whether a stream of these attributes would have the place of this one.
     pub(crate) fn has_place_of(&self, attrs: &StreamAttrs) -> bool
         ensures { result ≡ have_one_place self.now.state.attrs attrs.now }
     {
-        have_one_place(&self.state.attrs, attrs)
+        have_one_place(self.state.attrs.get(), attrs)
     }
 
     /// How many bytes the record takes that is stored next.
@@ -222,7 +223,7 @@ impl LiveStream {
         ensures length { result ≡ length_in self.now.state rec.now }
         ensures bound { result ≤ 16384 }
     {
-        match self.state.attrs.record_size {
+        match self.state.attrs.get().record_size {
             0 => printed_length(&self.expr, rec),
             size => size,
         }
@@ -234,7 +235,7 @@ impl LiveStream {
         ensures { (rec : RecordOf) → HasParts header.now body.now rec
             → result ≡ length_in self.now.state rec }
     {
-        match self.state.attrs.record_size {
+        match self.state.attrs.get().record_size {
             0 => parts_length(&self.expr, header, body),
             size => size,
         }
@@ -247,7 +248,7 @@ impl LiveStream {
         ensures { (rec : RecordOf) → HasNotifiedParts object.now notifier.now body.now rec
             → result ≡ length_in self.now.state rec }
     {
-        match self.state.attrs.record_size {
+        match self.state.attrs.get().record_size {
             0 => notified_length(&self.expr, object, notifier, body),
             size => size,
         }
@@ -258,9 +259,9 @@ impl LiveStream {
         ensures { result ≡ lacks_room self.now.state.attrs (current_file self.now.state.files).bytes
             len }
     {
+        let attrs = self.state.attrs.get();
         let current = current_of(self.state.files.as_slice());
-        self.state.attrs.action == FullAction::Halt
-            && !has_room(&self.state.attrs, current.bytes, len)
+        attrs.action == FullAction::Halt && !has_room(attrs, current.bytes, len)
     }
 
     /// The clients that have the stream open once this one has opened it.
@@ -336,7 +337,7 @@ impl LiveStream {
             ≡ storing (unsigned_abs last) (second_of now) rec.now self.now.state) }
     {
         let stamps = due_stamps(&self.state, len, last, now);
-        let size = self.state.attrs.record_size;
+        let size = self.state.attrs.get().record_size;
         let bytes = print_record(alloc, &self.expr, self.state.taken + 1, rec, size)?;
         let before = self.state.copy(alloc)?;
         Ok(StreamEvent::Stored {

@@ -221,7 +221,7 @@ fn system_stream(rt: &impl Abort, alloc: Global) -> SavedStream {
     openers.push(1).expect(rt, "memory");
     let state = StreamState {
         name: StreamName::System,
-        attrs,
+        attrs: Shared::new(alloc, attrs).expect(rt, "memory"),
         taken: 3,
         opened: 2,
         files,

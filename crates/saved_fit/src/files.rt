@@ -81,9 +81,10 @@ fn count_standing(state: &StreamState) -> u32
     ensures { result
         ≡ count_standing state.now.attrs.action state.now.attrs.rotated state.now.opened }
 {
-    match state.attrs.action {
+    let attrs = state.attrs.get();
+    match attrs.action {
         FullAction::Wrap | FullAction::Halt => state.opened,
-        FullAction::Rotate => state.opened.min(state.attrs.rotated),
+        FullAction::Rotate => state.opened.min(attrs.rotated),
     }
 }
 
@@ -99,7 +100,7 @@ fn has_count(state: &StreamState) -> bool
 fn is_alone(state: &StreamState) -> bool
     ensures { IsTrue result ↔ IsAlone state.now }
 {
-    state.attrs.action == FullAction::Rotate || state.opened == 1
+    state.attrs.get().action == FullAction::Rotate || state.opened == 1
 }
 
 /// Whether files begin with the first record of all.
@@ -130,7 +131,7 @@ pub(crate) fn has_fit_files(state: &StreamState) -> bool
         && state.opened <= state.taken.max(1)
         && has_count(state)
         && has_start(state)
-        && are_filled(&state.attrs, state.taken, state.files.as_slice())
+        && are_filled(state.attrs.get(), state.taken, state.files.as_slice())
         && are_even_if_alike(state)
 }
 

@@ -81,7 +81,7 @@ fn are_even(state: &StreamState) -> bool
     requires few { length state.now.files ≤ state.now.opened }
     ensures { IsTrue result ↔ AreEven state.now }
 {
-    let n = per_file(&state.attrs);
+    let n = per_file(state.attrs.get());
     let made = u64::from(state.taken.saturating_sub(1) / n) + 1;
     u64::from(state.opened) == made && begin_evenly(n, state.opened, state.files.as_slice())
 }
@@ -92,5 +92,6 @@ pub(crate) fn are_even_if_alike(state: &StreamState) -> bool
     requires few { length state.now.files ≤ state.now.opened }
     ensures { IsTrue result ↔ AreEvenIfAlike state.now }
 {
-    state.attrs.action != FullAction::Rotate || state.attrs.record_size == 0 || are_even(state)
+    let attrs = state.attrs.get();
+    attrs.action != FullAction::Rotate || attrs.record_size == 0 || are_even(state)
 }

@@ -102,7 +102,7 @@ fn names_differ(streams: &[SavedStream]) -> bool
 fn stand_at_one_place(one: &SavedStream, other: &SavedStream) -> bool
     ensures { result ≡ stand_at_one_place one.now other.now }
 {
-    have_one_place(&one.state.attrs, &other.state.attrs)
+    have_one_place(one.state.attrs.get(), other.state.attrs.get())
 }
 
 /// Whether some stream has the path and file of this one.
@@ -128,7 +128,7 @@ fn places_differ(streams: &[SavedStream]) -> bool
 fn passes(state: &StreamState) -> bool
     ensures { IsTrue result ↔ PassesAttrs (kind_of state.now.name) state.now.attrs }
 {
-    check_attrs(state.name.kind(), &state.attrs).is_ok()
+    check_attrs(state.name.kind(), state.attrs.get()).is_ok()
 }
 
 /// Whether a mark passes, of the stream of this name and once so many entries were accepted.

@@ -1,5 +1,5 @@
 //! The value of a service that nobody has used.
-use ais_values::{Seq, StreamKind};
+use ais_values::{Seq, Shared, StreamKind};
 use calls::{Saved, SavedStream};
 use std::alloc::{AllocError, Global};
 use stream_config::{LogFile, Mark, StreamName, StreamState, well_known};
@@ -26,7 +26,7 @@ fn well_stream(alloc: Global, name: StreamName, created: i64) -> Result<SavedStr
         StreamName::Notification => StreamKind::Notification,
         _ => StreamKind::System,
     };
-    let attrs = well_known(alloc, kind)?;
+    let attrs = Shared::new(alloc, well_known(alloc, kind)?)?;
     let mut files = Seq::new(alloc);
     files.push(LogFile {
         created,

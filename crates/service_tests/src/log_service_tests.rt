@@ -5,7 +5,7 @@ ghost use Rattle.stream_config.specs.Attributes.{PassesAttrs};
 ghost use Rattle.stream_config.specs.WellKnown.{default_file};
 ghost use Rattle.log_service.specs.State.{IsNotified};
 
-use ais_values::{ClassId, Duplicate, Name, Seq, Status, StreamKind, Text};
+use ais_values::{ClassId, Duplicate, Name, Seq, Shared, Status, StreamKind, Text};
 use log_service::{LogPlan, LogState, Step};
 use record_print::{Header, LogRecord};
 use std::alloc::{AllocError, Global};
@@ -321,9 +321,10 @@ fn alarm_state(rt: &impl Abort, alloc: Global) -> StreamState
         bytes: 0,
     };
     files.push(first).expect(rt, "memory");
+    let attrs = well_known(alloc, StreamKind::Alarm).expect(rt, "memory");
     StreamState {
         name: StreamName::Alarm,
-        attrs: well_known(alloc, StreamKind::Alarm).expect(rt, "memory"),
+        attrs: Shared::new(alloc, attrs).expect(rt, "memory"),
         taken: 0,
         opened: 1,
         files,

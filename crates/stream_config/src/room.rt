@@ -52,10 +52,11 @@ pub fn next_offset(state: &StreamState) -> u64
     requires { IsSized state.now.attrs }
     ensures { result ≡ next_offset state.now }
 {
-    match state.attrs.action {
+    let attrs = state.attrs.get();
+    match attrs.action {
         FullAction::Wrap => {
-            let slot = state.taken % per_file(&state.attrs);
-            u64::from(slot) * u64::from(state.attrs.record_size)
+            let slot = state.taken % per_file(attrs);
+            u64::from(slot) * u64::from(attrs.record_size)
         }
         FullAction::Halt | FullAction::Rotate => current_of(state.files.as_slice()).bytes,
     }
@@ -77,8 +78,9 @@ pub fn first_standing(state: &StreamState) -> u32
     requires { IsSized state.now.attrs }
     ensures { result ≡ first_standing state.now }
 {
-    match state.attrs.action {
-        FullAction::Wrap => state.taken.saturating_sub(per_file(&state.attrs)),
+    let attrs = state.attrs.get();
+    match attrs.action {
+        FullAction::Wrap => state.taken.saturating_sub(per_file(attrs)),
         FullAction::Halt | FullAction::Rotate => first_of(state.files.as_slice(), state.taken),
     }
 }

@@ -1,6 +1,6 @@
 //! What stands of a stream between two changes.
 use crate::{StreamAttrs, StreamName};
-use ais_values::{Duplicate, Seq};
+use ais_values::{Duplicate, Seq, Shared};
 use std::alloc::{AllocError, Global};
 
 /// A file of records of a stream: its stamps, which are seconds, the record with which it begins, and its length.
@@ -20,7 +20,7 @@ pub struct LogFile {
 #[derive(PartialEq)]
 pub struct StreamState {
     pub name: StreamName,
-    pub attrs: StreamAttrs,
+    pub attrs: Shared<StreamAttrs>,
     /// How many records it has taken since it was made.
     pub taken: u32,
     /// How many files were ever made of it.

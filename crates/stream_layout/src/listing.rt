@@ -94,10 +94,11 @@ fn made(alloc: Global, state: &StreamState) -> Result<Seq<Deed>, AllocError>
     requires { IsFitMade state.now }
     ensures { IfOk result (λ list. list ≡ deeds_of (event.Made state.now)) }
 {
+    let attrs = state.attrs.get();
     let current = current_of(state.files.as_slice());
-    let name = cfg_name(alloc, &state.attrs)?;
-    let bytes = cfg_text(alloc, &state.name, &state.attrs)?;
-    let log = name_of(alloc, &state.attrs, current)?;
+    let name = cfg_name(alloc, attrs)?;
+    let bytes = cfg_text(alloc, &state.name, attrs)?;
+    let log = name_of(alloc, attrs, current)?;
     let mut list = Seq::new(alloc);
     list.push(Deed::Put { name, bytes })?;
     list.push(Deed::Create { name: log })?;
@@ -192,9 +193,10 @@ fn stored(
     requires { IsFitStored before.now bytes.now stamps }
     ensures { IfOk result (λ list. list ≡ deeds_of (event.Stored before.now bytes.now stamps)) }
 {
+    let attrs = before.attrs.get();
     let file = written_to(before.files.as_slice(), stamps);
-    let mut list = change_if(alloc, &before.attrs, before.files.as_slice(), stamps)?;
-    let name = name_of(alloc, &before.attrs, file)?;
+    let mut list = change_if(alloc, attrs, before.files.as_slice(), stamps)?;
+    let name = name_of(alloc, attrs, file)?;
     let bytes = bytes.copy(alloc)?;
     let at = offset_written(before, stamps);
     list.push(Deed::Write { name, at, bytes })?;
@@ -208,7 +210,7 @@ fn ended(alloc: Global, before: &StreamState, closed: i64) -> Result<Seq<Deed>, 
     ensures { IfOk result (λ list. list ≡ deeds_of (event.Ended before.now closed)) }
 {
     let current = current_of(before.files.as_slice());
-    let closing = close(alloc, &before.attrs, current, closed)?;
+    let closing = close(alloc, before.attrs.get(), current, closed)?;
     let mut list = Seq::new(alloc);
     list.push(closing)?;
     Ok(list)

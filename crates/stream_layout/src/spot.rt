@@ -61,10 +61,11 @@ pub fn place_next(state: &StreamState, len: u32) -> Option<Spot>
     requires few { state.now.opened < 4294967295 }
     ensures { result ≡ next_spot state.now len }
 {
+    let attrs = state.attrs.get();
     let current = current_of(state.files.as_slice());
-    let fits = has_room(&state.attrs, current.bytes, len);
+    let fits = has_room(attrs, current.bytes, len);
     let at = next_offset(state);
-    match state.attrs.action {
+    match attrs.action {
         FullAction::Wrap => Some(Spot { file: 0, at }),
         FullAction::Halt => {
             if fits {

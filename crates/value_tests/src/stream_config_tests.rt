@@ -1,4 +1,4 @@
-use ais_values::{Duplicate, Name, Seq, StreamKind, Text};
+use ais_values::{Duplicate, Name, Seq, Shared, StreamKind, Text};
 use std::alloc::Global;
 use std::process::Abort;
 use stream_config::{
@@ -177,7 +177,13 @@ fn stamps_rise(rt: HostRuntime) {
 
 /// The alarm stream, which has taken so many records, the last of them to its current file, whose first record has this
 /// number.
-fn alarm_stream(rt: &impl Abort, alloc: Global, taken: u32, first: u32) -> StreamState {
+fn alarm_stream(
+    rt: &impl Abort,
+    alloc: Global,
+    attrs: StreamAttrs,
+    taken: u32,
+    first: u32,
+) -> StreamState {
     let mut files = Seq::new(alloc);
     let file = LogFile {
         created: 7,
@@ -188,7 +194,7 @@ fn alarm_stream(rt: &impl Abort, alloc: Global, taken: u32, first: u32) -> Strea
     files.push(file).expect(rt, "memory");
     StreamState {
         name: StreamName::Alarm,
-        attrs: attrs_of(rt, alloc, b"f", b"."),
+        attrs: Shared::new(alloc, attrs).expect(rt, "memory"),
         taken,
         opened: 1,
         files,
@@ -197,10 +203,11 @@ fn alarm_stream(rt: &impl Abort, alloc: Global, taken: u32, first: u32) -> Strea
 
 /// The first record that stands of a stream whose files hold three records.
 fn first_of(rt: &impl Abort, alloc: Global, action: FullAction, taken: u32, first: u32) -> u32 {
-    let mut state = alarm_stream(rt, alloc, taken, first);
-    state.attrs.max_file = 96;
-    state.attrs.action = action;
-    assert!(rt; check_attrs(StreamKind::Alarm, &state.attrs).is_ok());
+    let mut attrs = attrs_of(rt, alloc, b"f", b".");
+    attrs.max_file = 96;
+    attrs.action = action;
+    let state = alarm_stream(rt, alloc, attrs, taken, first);
+    assert!(rt; check_attrs(StreamKind::Alarm, state.attrs.get()).is_ok());
     let standing = first_standing(&state);
     drop(state);
     standing
@@ -266,7 +273,8 @@ fn a_mask_lets_the_severities_of_its_bits_pass(rt: HostRuntime) {
 #[test]
 fn copies_are_equal(rt: HostRuntime) {
     let alloc = rt.alloc();
-    let before = alarm_stream(&rt, alloc, 3, 0);
+    let attrs = attrs_of(&rt, alloc, b"f", b".");
+    let before = alarm_stream(&rt, alloc, attrs, 3, 0);
     let event = StreamEvent::Ended { before, closed: 9 };
     let copy = event.copy(alloc).expect(&rt, "memory");
     let equal = event == copy;

@@ -5,7 +5,7 @@ ghost use Rattle.stream_config.specs.WellKnown.{default_attrs};
 ghost use Rattle.stream_layout.specs.Carrying.{IsStamp, IsFitStream, IsFitEvent};
 ghost use Rattle.ais_values.specs.declared.kind.StreamKind.TheVariants as kinds;
 
-use ais_values::{Duplicate, Seq, StreamKind, Text};
+use ais_values::{Duplicate, Seq, Shared, StreamKind, Text};
 use std::alloc::Global;
 use std::process::Abort;
 use std::test::Fail;
@@ -53,7 +53,7 @@ fn records_have_their_places(rt: HostRuntime) {
 }
 
 /// Attributes of a stream of records of varying size, whose files have 16,384 bytes at most.
-fn free_attrs(rt: &impl Abort, alloc: Global, action: FullAction) -> StreamAttrs
+fn free_attrs(rt: &impl Abort, alloc: Global, action: FullAction) -> Shared<StreamAttrs>
     ensures max_file { result.max_file ≡ 16384 }
     ensures record_size { result.record_size ≡ 0 }
     ensures action { result.action ≡ action }
@@ -64,7 +64,7 @@ fn free_attrs(rt: &impl Abort, alloc: Global, action: FullAction) -> StreamAttrs
     attrs.record_size = 0;
     attrs.action = action;
     attrs.rotated = 1;
-    attrs
+    Shared::new(alloc, attrs).expect(rt, "memory")
 }
 
 /// The first file of a stream, with so many bytes.
@@ -186,7 +186,7 @@ fn system_stream(alloc: Global, taken: u32) -> Result<StreamState, Fail>
     ensures bytes { IfOk result (λ state. (current_file state.files).bytes ≡ taken * 256) }
     ensures attrs { IfOk result (λ state. state.attrs ≡ default_attrs kinds.System) }
 {
-    let attrs = well_known(alloc, StreamKind::System)?;
+    let attrs = Shared::new(alloc, well_known(alloc, StreamKind::System)?)?;
     let mut files = Seq::new(alloc);
     files.push(LogFile {
         created: 1_704_067_202,

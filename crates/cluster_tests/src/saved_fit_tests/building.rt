@@ -99,11 +99,16 @@ fn files(rt: &impl Abort, alloc: Global, plan: &StreamPlan) -> Seq<LogFile> {
     list
 }
 
-fn built_stream(rt: &impl Abort, alloc: Global, plan: &StreamPlan) -> SavedStream {
+fn built_stream(
+    rt: &impl Abort,
+    alloc: Global,
+    plan: &StreamPlan,
+    attrs: StreamAttrs,
+) -> SavedStream {
     SavedStream {
         state: StreamState {
             name: stream_name(rt, alloc, plan.name),
-            attrs: attrs(rt, alloc, plan),
+            attrs: Shared::new(alloc, attrs).expect(rt, "memory"),
             taken: plan.taken,
             opened: plan.opened,
             files: files(rt, alloc, plan),
@@ -120,16 +125,18 @@ fn built_stream(rt: &impl Abort, alloc: Global, plan: &StreamPlan) -> SavedStrea
 fn streams(rt: &impl Abort, alloc: Global, plans: &[StreamPlan], more: u8) -> Seq<SavedStream> {
     let mut list = Seq::new(alloc);
     for plan in plans {
-        list.push(built_stream(rt, alloc, plan))
+        let attrs = attrs(rt, alloc, plan);
+        list.push(built_stream(rt, alloc, plan, attrs))
             .expect(rt, "memory");
     }
     for place in 0..more.min(63) {
         let letter = 33 + place;
         let mut plan = stream(letter, b'x', WRAP, 0);
         plan.openers = [1, 2];
-        let mut made = built_stream(rt, alloc, &plan);
-        made.state.attrs.path = long_path(rt, alloc, place);
-        list.push(made).expect(rt, "memory");
+        let mut attrs = attrs(rt, alloc, &plan);
+        attrs.path = long_path(rt, alloc, place);
+        list.push(built_stream(rt, alloc, &plan, attrs))
+            .expect(rt, "memory");
     }
     list
 }
