@@ -16,4 +16,4 @@ pub use going::{let_entries_go, let_entry_go, let_history_go};
 pub use history::{History, MAX_ENTRIES};
 pub use law::law_of_equality;
 pub use reply::{Callback, Reply};
-pub use saved::{Saved, SavedAlarm, SavedReader, SavedStream, SavedSub, SavedWindow};
+pub use saved::{Saved, SavedAlarm, SavedLists, SavedReader, SavedStream, SavedSub, SavedWindow};

@@ -1,4 +1,6 @@
 //! The value of a service, as it is handed on.
+ghost use Rattle.std.specs.Prelude.{◌≡◌};
+
 use crate::Reply;
 use ais_values::{Duplicate, Seq, Shared};
 use ntf_filters::FilterSet;
@@ -27,6 +29,20 @@ impl Drop for SavedWindow {
     }
 }
 
+impl SavedWindow {
+    /// The replies. It takes no memory.
+    pub fn into_replies(self) -> Seq<Reply>
+        ensures { result ≡ self.replies }
+    {
+        let SavedWindow {
+            client: _,
+            next: _,
+            replies,
+        } = self;
+        replies
+    }
+}
+
 /// A stream, the clients that have it open, and its mark.
 #[derive(PartialEq)]
 pub struct SavedStream {
@@ -48,6 +64,21 @@ impl Drop for SavedStream {
     }
 }
 
+impl SavedStream {
+    /// The state, and the clients that have the stream open. It takes no memory.
+    pub fn into_parts(self) -> (StreamState, Seq<u16>)
+        ensures state { result.0 ≡ self.state }
+        ensures openers { result.1 ≡ self.openers }
+    {
+        let SavedStream {
+            state,
+            openers,
+            mark: _,
+        } = self;
+        (state, openers)
+    }
+}
+
 /// A stored alarm, under the number of its record.
 #[derive(PartialEq)]
 pub struct SavedAlarm {
@@ -60,6 +91,16 @@ impl Drop for SavedAlarm {
     fn drop(self) {
         let SavedAlarm { k: _, notification } = self;
         drop(notification);
+    }
+}
+
+impl SavedAlarm {
+    /// The notification. It takes no memory.
+    pub fn into_notification(self) -> Shared<Notification>
+        ensures { result ≡ self.notification }
+    {
+        let SavedAlarm { k: _, notification } = self;
+        notification
     }
 }
 
@@ -92,6 +133,26 @@ impl Drop for SavedSub {
         drop(filters);
         drop(held);
         drop(lost);
+    }
+}
+
+impl SavedSub {
+    /// The filters, the items that are held, and the marks of those lost. It takes no memory.
+    pub fn into_parts(self) -> (Shared<FilterSet>, Seq<Content>, Seq<Lost>)
+        ensures filters { result.0 ≡ self.filters }
+        ensures held { result.1 ≡ self.held }
+        ensures lost { result.2 ≡ self.lost }
+    {
+        let SavedSub {
+            client: _,
+            key: _,
+            id: _,
+            filters,
+            first: _,
+            held,
+            lost,
+        } = self;
+        (filters, held, lost)
     }
 }
 
@@ -161,6 +222,54 @@ impl Drop for Saved {
         drop(alarms);
         drop(subs);
         drop(readers);
+    }
+}
+
+/// The lists of a value, taken out of it.
+#[derive(Drop)]
+pub struct SavedLists {
+    pub log_users: Seq<u16>,
+    pub ntf_users: Seq<u16>,
+    pub windows: Seq<SavedWindow>,
+    pub streams: Seq<SavedStream>,
+    pub alarms: Seq<SavedAlarm>,
+    pub subs: Seq<SavedSub>,
+    pub readers: Seq<SavedReader>,
+}
+
+impl Saved {
+    /// The lists. It takes no memory.
+    pub fn into_lists(self) -> SavedLists
+        ensures log_users { result.log_users ≡ self.log_users }
+        ensures ntf_users { result.ntf_users ≡ self.ntf_users }
+        ensures windows { result.windows ≡ self.windows }
+        ensures streams { result.streams ≡ self.streams }
+        ensures alarms { result.alarms ≡ self.alarms }
+        ensures subs { result.subs ≡ self.subs }
+        ensures readers { result.readers ≡ self.readers }
+    {
+        let Saved {
+            number: _,
+            last_stamp: _,
+            last_id: _,
+            capacity: _,
+            log_users,
+            ntf_users,
+            windows,
+            streams,
+            alarms,
+            subs,
+            readers,
+        } = self;
+        SavedLists {
+            log_users,
+            ntf_users,
+            windows,
+            streams,
+            alarms,
+            subs,
+            readers,
+        }
     }
 }
 

@@ -26,8 +26,3 @@ log-fit saved fit = record {
 pub joined-saved : (streams : List SavedStream) → joined_streams (map (λ (stream : SavedStream). stream.state) streams) (map (λ (stream : SavedStream). stream.openers) streams) (map (λ (stream : SavedStream). stream.mark) streams) ≡ map kept_stream_of streams
 joined-saved [] = refl
 joined-saved (stream ∷ streams) = ap (λ rest. kept_stream_of stream ∷ rest) (joined-saved streams)
-
--- **what making the log again asks**
-pub rebuilt-fit : (saved : Saved) → IsFit saved → IsSoundTable (table_with (unsigned_abs saved.last_stamp) saved.log_users (joined_streams (map (λ (stream : SavedStream). stream.state) saved.streams) (map (λ (stream : SavedStream). stream.openers) saved.streams) (map (λ (stream : SavedStream). stream.mark) saved.streams)))
-rebuilt-fit saved fit =
-    subst (λ (streams : List OpenStream). IsSoundTable (table_with (unsigned_abs saved.last_stamp) saved.log_users streams)) (sym (joined-saved saved.streams)) (log-fit saved fit)

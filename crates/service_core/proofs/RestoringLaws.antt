@@ -1,7 +1,8 @@
 -- What is made again of a value that is fit.
 use Rattle.std.proofs.Common.{◌≡◌, ℕ, List, [], ◌∷◌, ◌++◌, map, refl, ap, sym, subst, ◌∙◌, append-nil, append_assoc, arith}
 use Rattle.std.proofs.lemmas.List.{map-append}
-use Rattle.std.specs.Prelude.{unsigned_abs}
+use Rattle.std.specs.Prelude.{ℤ, unsigned_abs}
+use Rattle.std.specs.List.{AllByRecursion}
 use Rattle.stream_config.specs.declared.mark.Mark.{Mark}
 use Rattle.stream_config.specs.declared.state.StreamState.{StreamState}
 use Rattle.alarm_view.specs.declared.alarm.KeptAlarm.{KeptAlarm}
@@ -10,47 +11,50 @@ use Rattle.alarm_view.proofs.Keeping.{AreInOrder-added}
 use Rattle.calls.specs.declared.saved.Saved.{Saved}
 use Rattle.calls.specs.declared.saved.SavedAlarm.{SavedAlarm}
 use Rattle.calls.specs.declared.saved.SavedReader.{SavedReader}
+use Rattle.calls.specs.declared.saved.SavedStream.{SavedStream}
+use Rattle.calls.specs.declared.saved.SavedSub.{SavedSub}
 use Rattle.log_history.specs.Table.{LogTable}
 use Rattle.log_service.specs.State.{IsSoundTable as IsSoundLog, joined_streams, table_with as log_with}
-use Rattle.ntf_history.specs.Kept.{Subscription}
-use Rattle.ntf_history.specs.Tables.{NtfTable, IsSoundTable as IsSoundNtf, table_with as ntf_with}
+use Rattle.ntf_history.specs.Tables.{NtfTable, HaveQueues, IsSoundTable as IsSoundNtf, table_with as ntf_with}
 use Rattle.plain_service.specs.Fitness.{IsFit}
-use Rattle.service_table.specs.Tables.{ServiceTable, kept_alarm_of, kept_sub_of, kept_window, table_of_saved, saved_table}
+use Rattle.service_table.specs.Tables.{ServiceTable, kept_stream_of, kept_alarm_of, kept_sub_of, kept_window, table_of_saved, saved_table}
 use Rattle.service_table.specs.declared.caller.ClientWindow.{ClientWindow}
 use Rattle.service_fit.proofs.RestoredParts.{ntf-fit, value-back}
 use Rattle.service_core.specs.declared.kept.Kept.{Kept}
 use Rattle.service_core.specs.Inside.{kept_table, IsKeptAs}
-use Rattle.service_core.specs.Restoring.{states_in, openers_in, marks_in, CanAddEach}
-use Rattle.service_core.proofs.FitLog.{joined-saved, rebuilt-fit}
+use Rattle.service_core.specs.Restoring.{states_in, openers_in, marks_in, HasSoundQueue, CanAddEach}
+use Rattle.service_core.proofs.FitLog.{joined-saved, log-fit}
 
 -- the log
 
-module _ (saved : Saved) (users : List ℕ) (states : List StreamState) (openers : List (List ℕ)) (marks : List Mark) (users_are : users ≡ saved.log_users) (states_are : states ≡ states_in saved.streams) (openers_are : openers ≡ openers_in saved.streams) (marks_are : marks ≡ marks_in saved.streams) where
-  log-same : log_with (unsigned_abs saved.last_stamp) users (joined_streams states openers marks) ≡ log_with (unsigned_abs saved.last_stamp) saved.log_users (joined_streams (states_in saved.streams) (openers_in saved.streams) (marks_in saved.streams))
-  log-same =
-      let made = log_with (unsigned_abs saved.last_stamp) in
-      ap (λ these. made these (joined_streams states openers marks)) users_are
-      ∙ ap (λ these. made saved.log_users (joined_streams these openers marks)) states_are
-      ∙ ap (λ these. made saved.log_users (joined_streams (states_in saved.streams) these marks)) openers_are
-      ∙ ap (λ these. made saved.log_users (joined_streams (states_in saved.streams) (openers_in saved.streams) these)) marks_are
+-- a log that is made of parts of its streams is the one of these streams
+pub log-made : (last : ℕ) (users : List ℕ) (streams : List SavedStream) (states : List StreamState) (openers : List (List ℕ)) (marks : List Mark) → states ≡ states_in streams → openers ≡ openers_in streams → marks ≡ marks_in streams → log_with last users (joined_streams states openers marks) ≡ log_with last users (map kept_stream_of streams)
+log-made last users streams states openers marks states_are openers_are marks_are =
+    ap (λ these. log_with last users (joined_streams these openers marks)) states_are
+    ∙ ap (λ these. log_with last users (joined_streams (states_in streams) these marks)) openers_are
+    ∙ ap (λ these. log_with last users (joined_streams (states_in streams) (openers_in streams) these)) marks_are
+    ∙ ap (log_with last users) (joined-saved streams)
 
-  pub log-sound : IsFit saved → IsSoundLog (log_with (unsigned_abs saved.last_stamp) users (joined_streams states openers marks))
-  log-sound fit = subst IsSoundLog (sym log-same) (rebuilt-fit saved fit)
+module _ (saved : Saved) (last : ℤ) (users : List ℕ) (streams : List SavedStream) (last_is : last ≡ saved.last_stamp) (users_are : users ≡ saved.log_users) (streams_are : streams ≡ saved.streams) where
+  pub log-of : log_with (unsigned_abs last) users (map kept_stream_of streams) ≡ (table_of_saved saved).log
+  log-of = rw (last_is, users_are, streams_are)
 
-  pub log-made : log_with (unsigned_abs saved.last_stamp) users (joined_streams states openers marks) ≡ (table_of_saved saved).log
-  log-made =
-      log-same ∙ ap (log_with (unsigned_abs saved.last_stamp) saved.log_users) (joined-saved saved.streams)
+  pub log-sound : IsFit saved → IsSoundLog (log_with (unsigned_abs last) users (map kept_stream_of streams))
+  log-sound fit = subst IsSoundLog (sym log-of) (log-fit saved fit)
 
 -- the Notification Service
 
-module _ (saved : Saved) (users : List ℕ) (subs : List Subscription) (users_are : users ≡ saved.ntf_users) (subs_are : subs ≡ map (kept_sub_of saved.capacity) saved.subs) where
-  pub ntf-made : ntf_with saved.capacity users saved.last_id subs ≡ (table_of_saved saved).ntf
-  ntf-made =
-      ap (λ these. ntf_with saved.capacity these saved.last_id subs) users_are
-      ∙ ap (ntf_with saved.capacity saved.ntf_users saved.last_id) subs_are
+module _ (saved : Saved) (users : List ℕ) (subs : List SavedSub) (users_are : users ≡ saved.ntf_users) (subs_are : subs ≡ saved.subs) where
+  pub ntf-of : ntf_with saved.capacity users saved.last_id (map (kept_sub_of saved.capacity) subs) ≡ (table_of_saved saved).ntf
+  ntf-of = rw (users_are, subs_are)
 
-  pub ntf-sound : IsFit saved → IsSoundNtf (ntf_with saved.capacity users saved.last_id subs)
-  ntf-sound fit = subst IsSoundNtf (sym ntf-made) (ntf-fit saved fit)
+  pub ntf-sound : IsFit saved → IsSoundNtf (ntf_with saved.capacity users saved.last_id (map (kept_sub_of saved.capacity) subs))
+  ntf-sound fit = subst IsSoundNtf (sym ntf-of) (ntf-fit saved fit)
+
+-- the queues of a table that is sound can be made again
+pub queues-sound : (cap : ℕ) (subs : List SavedSub) → HaveQueues cap (map (kept_sub_of cap) subs) → AllByRecursion (HasSoundQueue cap) subs
+queues-sound cap [] have = tt
+queues-sound cap (sub ∷ subs) have = (have.1, queues-sound cap subs have.2)
 
 -- stored alarms
 

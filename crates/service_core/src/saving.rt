@@ -44,7 +44,7 @@ fn add_copies<T: Duplicate + Drop>(
 }
 
 /// Copies of values, in order.
-pub(crate) fn copied<T: Duplicate + Drop>(alloc: Global, items: &[T]) -> Result<Seq<T>, AllocError>
+fn copied<T: Duplicate + Drop>(alloc: Global, items: &[T]) -> Result<Seq<T>, AllocError>
     ensures { IfOk result (λ copies. copies ≡ items.now) }
 {
     let mut copies = Vec::with_capacity(alloc, items.len())?;

@@ -23,7 +23,7 @@ use crate::acting::act;
 use crate::kept::{Kept, Whole};
 use crate::parts::Parts;
 use crate::{Effect, RestoreAnswer, holding, opening, restoring, saving};
-use ais_values::{LAST_TIME, MAX_CLIENT, Seq};
+use ais_values::{Duplicate, LAST_TIME, MAX_CLIENT, Seq};
 use calls::{Call, Entry, Held, MAX_ENTRIES, Reply, Saved};
 use client_window::Judged;
 use saved_fit::is_fit;
@@ -134,6 +134,15 @@ fn service_of(alloc: Global, kept: Kept, cap: u32) -> Result<Service, AllocError
     Ok(Service { whole })
 }
 
+/// The service of a copy of a value that is fit.
+fn restore_copy(alloc: Global, saved: &Saved) -> Result<Service, AllocError>
+    requires { IsFit saved.now }
+    ensures { IfOk result (λ service. service ≡ saved.now) }
+{
+    let copy = saved.copy(alloc)?;
+    Service::restore_fit(alloc, copy)
+}
+
 impl Service {
     /// A service that nobody has used. It begins at a time from 0 to 9,000,000,000,000,000,000, each of its subscriptions
     /// holds at most `cap` items, 1 to 256, and `wells` are the attributes of the alarm, the notification and the system stream:
@@ -164,20 +173,22 @@ impl Service {
         if !is_fit(saved) {
             return Err(RestoreAnswer::Refused);
         }
-        match Service::restore_fit(alloc, saved) {
+        match restore_copy(alloc, saved) {
             Ok(service) => Ok(service),
             Err(_) => Err(RestoreAnswer::Memory),
         }
     }
 
-    /// The service of a value that is known to be fit: it is not looked at whether it is. Beside that it is `restore`. On an error,
-    /// which is want of memory, there is no service; the value stays as it is.
-    pub fn restore_fit(alloc: Global, saved: &Saved) -> Result<Service, AllocError>
-        requires { IsFit saved.now }
-        ensures { IfOk result (λ service. service ≡ saved.now) }
+    /// The service of a value that is known to be fit: it is not looked at whether it is. It takes the value over: no list of it is
+    /// copied. Beside that it is `restore`. On an error,
+    /// which is want of memory, there is no service, and the value is let go.
+    pub fn restore_fit(alloc: Global, saved: Saved) -> Result<Service, AllocError>
+        requires { IsFit saved }
+        ensures { IfOk result (λ service. service ≡ saved) }
     {
+        let cap = saved.capacity;
         let kept = restoring::restored(alloc, saved)?;
-        let service = service_of(alloc, kept, saved.capacity)?;
+        let service = service_of(alloc, kept, cap)?;
         Ok(service)
     }
 

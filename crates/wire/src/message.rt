@@ -1,6 +1,6 @@
 //! The messages of clients and servers, and why bytes are none.
 ghost use Rattle.std.specs.Prelude.{◌≡◌};
-ghost use Rattle.wire.specs.Mirrored.{entry_in};
+ghost use Rattle.wire.specs.Mirrored.{entry_in, saved_in};
 
 use ais_values::Duplicate;
 use calls::{Boxed, Call, Entry, Reply, Saved, Shared};
@@ -112,6 +112,19 @@ impl Message {
     {
         match self {
             Message::Mirror { number, entry } => Some((number, entry)),
+            other => {
+                drop(other);
+                None
+            }
+        }
+    }
+
+    /// The value of the service, taken out of the message, if it brings one; any other message is let go. It takes no memory.
+    pub fn into_saved(self) -> Option<Saved>
+        ensures { result ≡ saved_in self }
+    {
+        match self {
+            Message::Snapshot { saved } => Some(saved.into_inner()),
             other => {
                 drop(other);
                 None
