@@ -180,8 +180,7 @@ impl Service {
     }
 
     /// The service of a value that is known to be fit: it is not looked at whether it is. It takes the value over: no list of it is
-    /// copied. Beside that it is `restore`. On an error,
-    /// which is want of memory, there is no service, and the value is let go.
+    /// copied. Beside that it is `restore`. On an error, which is want of memory, there is no service, and the value is let go.
     pub fn restore_fit(alloc: Global, saved: Saved) -> Result<Service, AllocError>
         requires { IsFit saved }
         ensures { IfOk result (λ service. service ≡ saved) }
