@@ -1,6 +1,6 @@
-//! The scripts of `bench/play`, `bench/corners`, `bench/join` and `bench/load`, played by plain Rust: what the proved program is measured
-//! against. It prints the same bytes and leaves the same files, keeps the net as spelled messages with an index, and the history, and
-//! keeps files open. It takes only the lines that these scripts have, and stops at any other.
+//! The scripts of `bench/play`, `bench/corners`, `bench/join`, `bench/load` and `tests/fuzz --costs`, played by plain Rust: what the proved
+//! program is measured against. It prints the same bytes and leaves the same files, keeps the net as spelled messages with an index, and
+//! the history, and keeps files open. It takes only the lines that these scripts have, and stops at any other.
 //!
 //! Words: none plays the script of the standard input by two servers, `trio` by three; `load COUNT SEED` the script of a large run, and
 //! prints one line; `writes COUNT` makes the writes and syncs of that run and nothing else, and `joins COUNT` those of so many entries that

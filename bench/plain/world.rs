@@ -7,6 +7,7 @@ use std::collections::{BTreeMap, HashMap, VecDeque};
 use std::fmt::Arguments;
 use std::fs;
 use std::io::{self, Write};
+use std::path::Path;
 use std::rc::Rc;
 
 /// A server: the services, and the deeds of the last entry that it applied since it was handed them on.
@@ -287,10 +288,10 @@ impl World {
         Ok(self.take_items() || loud)
     }
 
-    fn dispatch(&mut self, client: u16) {
+    fn dispatch(&mut self, client: u16, most: usize) {
         let agent = self.agents.get_mut(&client).expect("a client that asked");
-        let count = agent.queue.len();
-        for callback in agent.queue.drain(..) {
+        let count = agent.queue.len().min(most);
+        for callback in agent.queue.drain(..count) {
             agent.handed += 1;
             let place = agent.handed;
             match callback {
@@ -322,6 +323,14 @@ impl World {
         Ok(())
     }
 
+    fn show_file(&mut self, name: &str) -> io::Result<()> {
+        let text = fs::read_to_string(Path::new(ROOT).join(name))?;
+        for line in text.lines() {
+            self.lines.tell(format_args!("text {}", line.trim_end_matches(' ')));
+        }
+        Ok(())
+    }
+
     fn settle(&mut self) -> io::Result<()> {
         while self.join() {}
         while self.round()? {}
@@ -340,8 +349,11 @@ impl World {
             }
             ["ack"] => {}
             ["servers"] => (0..self.servers.len()).for_each(|place| self.tell_role(place)),
-            ["dispatch", client, "all", workers] if workers.starts_with("workers=") => self.dispatch(number(client)),
+            ["dispatch", client, "all", workers] if workers.starts_with("workers=") => self.dispatch(number(client), usize::MAX),
+            ["dispatch", client, "one"] => self.dispatch(number(client), 1),
+            ["time", now] => self.now = number(now),
             ["files"] => self.show_files()?,
+            ["cat", name] => self.show_file(name.trim_matches('"'))?,
             ["log" | "ntf", client, ..] => {
                 let call = call_of(&words).unwrap_or_else(|| panic!("no line of these scripts: {words:?}"));
                 self.ask(number(client), call);

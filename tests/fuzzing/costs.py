@@ -11,8 +11,8 @@ CLIENTS, WINDOW, SUBSCRIPTIONS = 4096, 32, 64
 FALLS = 300
 # So many clients at most fill their windows before a long run, whose own lines would be lost in what many more take.
 FILLED = 64
-# What takes less than so many seconds is lost in what else a run takes. A long run takes so many, or has so many turns.
-LEAST_SECONDS, LONG_SECONDS, TURNS = 0.01, 0.05, 16383
+# What takes less than so many seconds is lost in what else a run takes. A long run takes so many more, or has so many turns.
+LEAST_SECONDS, LONG_SECONDS, TURNS = 0.01, 0.05, 10000
 
 
 def upto(rng, most):
@@ -137,10 +137,13 @@ class Long(Script):
         self.turn = rng.choice(kinds)
 
     def lengthen(self):
-        for _ in range(self.count + 1):
+        if self.count >= TURNS:
+            return False
+        more = 3 * self.count + 8
+        for _ in range(more):
             self.turn()
-        self.count += self.count + 1
-        return self.count < TURNS
+        self.count += more
+        return True
 
     def join(self):
         server = self.servers[-1]
@@ -151,10 +154,10 @@ class Long(Script):
             self.lines += [f"crash {server}", f"restart {server}", "settle"]
 
     def tell(self):
-        self.lines.append(("servers", "files")[self.further % 2])
+        self.lines.append(("servers", "files", 'cat "saLogSystem.cfg"', f"time {START + self.count}")[self.further])
 
     def hand_out(self):
-        self.lines.append(f"dispatch {(1, self.subscriber)[self.further % 2]} all workers=1")
+        self.lines.append(f"dispatch {(1, self.subscriber)[self.further % 2]} {('one', 'all workers=1')[self.further // 2]}")
 
     def ask_once(self):
         """A write, its reply and its callback."""
