@@ -281,9 +281,9 @@ module _ (setup : Setup) (world : World) (entry : Entry) (keeps : Bool) (armed b
       let both = lacks-between T over.worked held left over.mid performs over.ends over.disk over.journal in
       let none : LacksBoth setup state old.history.entries held left = λ besides. lacked-so held left both.1 (stands-lacking held.disk left.disk rose) in
       elim breaks [
-        | inl kept ↦ (breaks-same held left (ap (λ (s : Lone). s.armed) kept.0) both.1 (subst (λ (n : List (List ℕ)). AreSpelled world.net n) (sym kept.1.0) shows.net) both.0, none)
+        | inl kept ↦ (breaks-same held left (ap (λ (s : Lone). s.armed) kept.0) both.1 (subst (λ (n : List (List ℕ)). AreSpelled world.net n) (sym kept.1) shows.net) both.0, none)
         | inr some ↦
-            let posts = subst (λ (s : Lone). PostsSome (replies_in s.node.replica.owed) old.net net) shows.own some.1.0 in
+            let posts = subst (λ (s : Lone). PostsSome (replies_in s.node.replica.owed) old.net net) shows.own some.1 in
             let stays : servers.armed ≡ old.servers.lone.armed = ap (λ (s : Lone). s.armed) some.0 in
             elim (answer-breaks setup past entry world.net old.net net posts shows.net) [
               | inl spelled ↦ (breaks-same held left stays both.1 spelled both.0, none)

@@ -247,5 +247,5 @@ module _ {P S : Type 0} (kit : Kit P S) (laws : IsKit kit) where
     pub partly-breaks : (servers : S) (net : List (List ℕ)) (history : Pushed) (held : kit.Seen) (new : Node) (place : ℕ) (message : Message) → Stands message (messages_in state.world.net) → HearsPartly message (to_z w64 (of_z w64 old.now)) first new old.net net old.history.entries history.entries → (kit.Armed state.peers held → kit.ArmedAs servers held) → Broken kit setup state held held (left_as kit laws old servers net history)
     partly-breaks servers net history held new place message stands partly armed = elim partly.part [
       | inl none ↦ still-breaks servers net history held partly.history armed (subst (λ n. AreSpelled state.world.net n) (sym none.1) shows.net)
-      | inr some ↦ hears-break servers net history held partly.history armed some.0 new place message stands (heard-then kit laws setup state old message some.0 first new good shows some.1) some.2.0
+      | inr some ↦ hears-break servers net history held partly.history armed some.0 new place message stands (heard-then kit laws setup state old message some.0 first new good shows some.1) some.2
     ]

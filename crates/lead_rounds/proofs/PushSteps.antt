@@ -118,5 +118,5 @@ module _ {P S : Type 0} (kit : Kit P S) (laws : IsKit kit) where
     pub push-partly : (net : List (List ℕ)) (held : kit.Seen) → PushesPartly node.replica old.net net → Broken kit setup state held held (record old { net = net })
     push-partly net held partly = elim partly [
       | inl same ↦ nothing-broken kit laws setup state held (record old { net = net }) good (subst (λ messages. AreSpelled state.world.net messages) (sym same) shows.net) shows.agents shows.history shows.now (armed-shown kit laws setup state held old shows)
-      | inr some ↦ push-breaks net some.0 held some.1 some.2.0
+      | inr some ↦ push-breaks net some.0 held some.1 some.2
     ]

@@ -54,7 +54,7 @@ downs old mid new loses is = is ∙ ap downed loses.is
 pub lacks-armed : (old new : Lone) (past entries : List Entry) (held left : DiskSeen) → JoinLacks old new past entries held left → new.armed ≡ old.armed
 lacks-armed old new past entries held left (inl same) = ap (λ (servers : Lone). servers.armed) same.0
 lacks-armed old new past entries held left (inr (inl loses)) = ap (λ (servers : Lone). servers.armed) loses.0.is
-lacks-armed old new past entries held left (inr (inr joins)) = ap (λ (servers : Lone). servers.armed) joins.1.0.is
+lacks-armed old new past entries held left (inr (inr joins)) = ap (λ (servers : Lone). servers.armed) joins.1.is
 
 -- whether nothing is on the way
 pub clear-is : (list : List Message) (answer : Bool) → answer ≡ (length list == 0) → IsTrue answer ↔ (list ≡ [])
