@@ -45,9 +45,9 @@ class Client:
 
 class Script:
     """A script of the lines that bench/plain takes, by two servers or three. Writers have no subscription, so their queues hold replies
-    alone. What counts is what the lines behind the first `begun` add."""
+    alone; such a share of them opens the stream that they write. What counts is what the lines behind the first `begun` add."""
 
-    def __init__(self, rng, writers):
+    def __init__(self, rng, writers, openers=0.5):
         self.rng, self.callbacks, self.sent, self.falls = rng, upto(rng, 256), 0, 0
         self.word, self.servers = rng.choice((("run", "ab"), ("run", "ab"), ("trio", "abc")))
         self.lines, self.begun = [f"cluster start={START} queue={upto(rng, 256)} callbacks={self.callbacks}"], 1
@@ -57,7 +57,7 @@ class Script:
         rng.choice((list, list.reverse, rng.shuffle))(order)
         for number in order:
             self.ask(number, f"log {number} init A.2.1")
-            if rng.random() < 0.5 or number == 1:
+            if rng.random() < openers or number == 1:
                 self.ask(number, f"log {number} open system")
             else:
                 self.writers[number - 1].next = 0
@@ -123,7 +123,7 @@ class Long(Script):
     since bench/plain has no others."""
 
     def __init__(self, rng):
-        super().__init__(rng, rng.choice((1, upto(rng, 32), upto(rng, 32), upto(rng, CLIENTS - 1))))
+        super().__init__(rng, rng.choice((1, upto(rng, 32), upto(rng, 32), upto(rng, CLIENTS - 1))), openers=1)
         self.flags = 0
         for client in range(1, rng.choice((0, min(len(self.writers), FILLED))) + 1):
             for _ in range(WINDOW - 2):
