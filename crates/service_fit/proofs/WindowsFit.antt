@@ -1,10 +1,10 @@
 -- The windows of a fit value stay fit as one has a reply more, and no client's next number falls.
-use Rattle.std.proofs.Common.{◌≡◌, ℕ, ◌+◌, ◌<◌, ◌≤◌, ◌==◌, nat_lt, Bool, true, false, cond, List, [], ◌∷◌, length, reverse, map, refl, ap, sym, ◌∙◌, subst, arith}
+use Rattle.std.proofs.Common.{◌≡◌, ℕ, ◌+◌, ◌<◌, ◌≤◌, ◌==◌, nat_lt, Bool, true, false, cond, List, [], ◌∷◌, length, take, reverse, map, refl, ap, sym, ◌∙◌, subst, arith}
 use Rattle.std.specs.Prelude.{Option, Some, None, find, option_map, MatchOption}
 use Rattle.std.specs.Option.{option_map_or}
 use Rattle.std.specs.List.{AllByRecursion}
 use Rattle.std.proofs.lemmas.Bool.Decides.{nat_tests}
-use Rattle.std.proofs.lemmas.List.{length-reverse}
+use Rattle.std.proofs.lemmas.List.{length-reverse, reverse-reverse}
 use Rattle.client_set.specs.Rising.{put, IsOrder, IsRising}
 use Rattle.client_set.proofs.RisingLaws.{IsRising-put, IsOrder-nat_lt}
 use Rattle.log_history.proofs.FirstLaws.{find-map}
@@ -137,6 +137,14 @@ callers-later number windows fit = record {
 }
 
 -- **the windows after a call**
+-- the replies of a window that keeps one more
+replies-more : (next : ℕ) (reply : Reply) (kept : List Reply) → HasRepliesBefore next (length kept) → HasRepliesBefore (next + 1) (length (take 32 (reply ∷ kept)))
+replies-more next reply kept before =
+    let now = take 32 (reply ∷ kept) in
+    let turned = reverse-reverse now ∙ ap (λ (replies : List Reply). take 32 (reply ∷ replies)) (sym (reverse-reverse kept)) in
+    let oldest_first = subst (HasRepliesBefore next) (sym (length-reverse kept)) before in
+    subst (HasRepliesBefore (next + 1)) (length-reverse now) (HasRepliesBefore-more next reply (reverse kept) (reverse now) oldest_first turned)
+
 pub callers-answered : (number client : ℕ) (reply : Reply) (windows : List ClientWindow) → IsClient client → AreFitCallers number windows → AreFitCallers (number + 1) (answered client reply windows)
 callers-answered number client reply windows caller fit =
     let before = window-fit number client windows fit.each in
@@ -145,7 +153,7 @@ callers-answered number client reply windows caller fit =
     record {
       order = IsRising-put window_before (IsOrder-by (λ (one : ClientWindow). one.client)) new windows fit.order;
       each = each-put (IsFitCaller (number + 1)) window_before new windows
-          (record { client = caller; replies = HasRepliesBefore-more window.next reply window.replies (with_reply reply window).replies before.replies refl; next = omega (arith, before.next) })
+          (record { client = caller; replies = replies-more window.next reply window.replies before.replies; next = omega (arith, before.next) })
           (callers-later number windows fit).each;
     }
 
