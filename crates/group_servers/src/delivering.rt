@@ -39,14 +39,15 @@ fn put_joined(
 }
 
 /// A server hears a message of the active one. Where 4,000,000,000 entries were accepted it answers as if memory ran out.
-fn receive(alloc: Global, node: &mut Node, message: &Message, now: i64) -> Result<Heard, AllocError>
-    requires { (moment : ℤ) → CanReceive message.now moment node.old }
-    ensures { IfOk result (λ heard. Hears message.now node.old heard node.new) }
+fn receive(alloc: Global, node: &mut Node, message: Message, now: i64) -> Result<Heard, AllocError>
+    requires { (moment : ℤ) → CanReceive message moment node.old }
+    ensures { IfOk result (λ heard. Hears message node.old heard node.new) }
 {
     if !node.has_room() {
+        let_message_go(Some(message));
         return Err(AllocError);
     }
-    node.receive(alloc, message, now)
+    node.take_message(alloc, message, now)
 }
 
 /// Tells what a server heard: that it joined, and what it answers. Answers with the entry that it applied, if it did.
@@ -97,9 +98,7 @@ pub(crate) fn deliver_to(
         Some(message) => message,
         None => return Ok(None),
     };
-    let received = receive(alloc, &mut seat.node, &message, now);
-    let_message_go(Some(message));
-    match received {
+    match receive(alloc, &mut seat.node, message, now) {
         Ok(heard) => match tell_delivered(alloc, seat.server, &mut seat.back, lines, heard) {
             Ok(committed) => Ok(Some(committed)),
             Err(error) => Err(error),

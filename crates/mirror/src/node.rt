@@ -26,14 +26,14 @@ use crate::pairing::{can_join, has_room, is_next, send};
 use crate::parts::push_items;
 use crate::state::NodeState;
 use crate::{Heard, Outcome, Role, Why};
-use ais_values::Seq;
+use ais_values::{Duplicate, Seq};
 use calls::{Entry, Reply, Saved};
 use disk_model::{DiskAnswer, SharedDisk};
 use service_core::Service;
 use std::alloc::{AllocError, Global};
 use std::marker::Model;
 use std::mem::replace;
-use wire::{Message, one_message};
+use wire::{Message, let_message_go, one_message};
 
 /// What ties the active server to its partner.
 #[derive(Clone, Copy)]
@@ -398,12 +398,12 @@ impl Node {
         }
     }
 
-    // A server that joins gets the value of the service. On an error nothing changes.
-    fn join(&mut self, alloc: Global, saved: &Saved) -> Result<Heard, AllocError>
-        requires { IsFit saved.now }
+    // A server that joins takes the value of the service over. On an error nothing changes.
+    fn join(&mut self, alloc: Global, saved: Saved) -> Result<Heard, AllocError>
+        requires { IsFit saved }
         ensures ok { IfOk result (λ heard.
-            (heard ≡ sent (JoinAck saved.now.number ∷ []) None Joined)
-            × (self.new ≡ alone (started role.Standby saved.now))) }
+            (heard ≡ sent (JoinAck saved.number ∷ []) None Joined)
+            × (self.new ≡ alone (started role.Standby saved))) }
         ensures err { OnErr result (self.new ≡ self.old) }
     {
         let number = saved.number;
@@ -412,6 +412,18 @@ impl Node {
         let node = Node::start(alloc, Role::Standby, service);
         drop(replace(self, node));
         Ok(send(alloc, to_peer, None, Outcome::Joined))
+    }
+
+    // A server that joins takes a copy of the value of the service. On an error nothing changes.
+    fn join_copy(&mut self, alloc: Global, saved: &Saved) -> Result<Heard, AllocError>
+        requires { IsFit saved.now }
+        ensures ok { IfOk result (λ heard.
+            (heard ≡ sent (JoinAck saved.now.number ∷ []) None Joined)
+            × (self.new ≡ alone (started role.Standby saved.now))) }
+        ensures err { OnErr result (self.new ≡ self.old) }
+    {
+        let copy = saved.copy(alloc)?;
+        self.join(alloc, copy)
     }
 
     // The active server hears a message. On an error nothing changes.
@@ -495,8 +507,32 @@ impl Node {
     {
         let _ = now;
         match message {
-            Message::Snapshot { saved } => self.join(alloc, saved.get()),
+            Message::Snapshot { saved } => self.join_copy(alloc, saved.get()),
             _ => Ok(ignore(
+                alloc,
+                Why::NotForRole {
+                    role: Role::Joining,
+                },
+            )),
+        }
+    }
+
+    // A server that joins hears a message that is handed over. On an error nothing changes.
+    fn take_joining(
+        &mut self,
+        alloc: Global,
+        message: Message,
+        now: i64,
+    ) -> Result<Heard, AllocError>
+        requires { CanReceive message now self.old }
+        ensures ok { IfOk result (λ heard.
+            IsReceived role.Joining message now self.old heard self.new) }
+        ensures err { OnErr result (self.new ≡ self.old) }
+    {
+        let _ = now;
+        match message.into_saved() {
+            Some(saved) => self.join(alloc, saved),
+            None => Ok(ignore(
                 alloc,
                 Why::NotForRole {
                     role: Role::Joining,
@@ -569,6 +605,30 @@ impl Node {
             Role::Standby => self.receive_standby(alloc, message, now),
             Role::Joining => self.receive_joining(alloc, message, now),
             Role::Down => Ok(ignore(alloc, Why::NotForRole { role: Role::Down })),
+        }
+    }
+
+    /// Hears a message that is handed over, as `receive` does. A server that joins takes the value of the service out of it, with no copy
+    /// of its lists. `Err` comes only for want of memory, and nothing of the server changes then; the message is let go in any case.
+    pub fn take_message(
+        &mut self,
+        alloc: Global,
+        message: Message,
+        now: i64,
+    ) -> Result<Heard, AllocError>
+        requires receive { CanReceive message now self.old }
+        requires few { HasRoom self.old.replica.service }
+        ensures ok { IfOk result (λ heard.
+            IsReceived self.old.replica.role message now self.old heard self.new) }
+        ensures err { OnErr result (self.new ≡ self.old) }
+    {
+        match self.role() {
+            Role::Joining => self.take_joining(alloc, message, now),
+            _ => {
+                let heard = self.receive(alloc, &message, now);
+                let_message_go(Some(message));
+                heard
+            }
         }
     }
 }

@@ -1,7 +1,6 @@
 //! What a service keeps, made of its value. The lists of the value, and what they hold, are taken over.
 ghost use Rattle.std.specs.Prelude.{◌≡◌, ◌≤ℤ◌, ◌++◌, ◌∷◌, [], ℕ, pos, unsigned_abs, length, map, IfOk, OnOk};
 ghost use Rattle.std.specs.List.{AllByRecursion};
-ghost use Rattle.calls.specs.declared.saved.SavedAlarm.{SavedAlarm};
 ghost use Rattle.plain_service.specs.Fitness.{IsFit, IsFitWindow};
 ghost use Rattle.client_window.specs.Windows.{HasRepliesBefore};
 ghost use Rattle.log_service.specs.State.{IsSoundTable as IsSoundLog, table_with as log_with};
